@@ -1,0 +1,74 @@
+-- The header of a text, and where the cutter begins.
+use mathlib.Core.Path.{_≡_, refl, sym, ap, _∙_}
+use mathlib.Core.Bool.{Bool, true, false, cond, _&&_}
+use mathlib.Core.List.{List, [], _∷_}
+use Prim.Native.Nat.{ℕ, _+_, _-_, _≤_}
+use native.Mathlib.Omega.{arith}
+use lib.Dec.{leb, eqb}
+use lib.ListN.{length, getD, take, drop}
+use Rattle.std.proofs.shelf.Lists.{take-rest, length-drop}
+use Rattle.std.proofs.shelf.Tests.{and-from, and-parts, eq-eqb, le-leb, leb-true, cond-both, cond-true}
+use Rattle.std.specs.declared.option.Option.{Option}
+use Rattle.std.specs.declared.option.Option.the-variants.{Some, None}
+use Rattle.edifact.specs.declared.marks.Marks.{Marks}
+use Rattle.edifact.specs.declared.marks.DecimalMark.{DecimalMark}
+use Rattle.edifact.specs.Bytes.{breakRun}
+use Rattle.edifact.specs.Marks.{lawful, ifLawful, withDecimal, decimalOf, hasHeader, headerLength, marksIn, marksOf, body, usual}
+use Rattle.edifact.specs.Cutting.{cutFrom, leadingBreaks, cutWith, cut}
+
+pub header-read : (text : List ℕ) (m : Marks) → hasHeader text ≡ true → 9 ≤ length text → getD text 7 0 ≡ 32 →
+  marksIn (getD text 3 0) (getD text 4 0) (getD text 5 0) (getD text 6 0) (getD text 8 0) ≡ Some m →
+  (marksOf text ≡ Some m) × (take (length text - 9) (drop 9 text) ≡ body text)
+header-read text m h l s e =
+  let found : Option Marks = marksIn (getD text 3 0) (getD text 4 0) (getD text 5 0) (getD text 6 0) (getD text 8 0) in
+  let long : (leb 9 (length text) && eqb (getD text 7 0) 32) ≡ true = and-from (leb 9 (length text)) (eqb (getD text 7 0) 32) (le-leb 9 (length text) l) (eq-eqb (getD text 7 0) 32 s) in
+  (ap (λ t. cond t (cond (leb 9 (length text) && eqb (getD text 7 0) 32) found None) (Some usual)) h ∙ ap (λ t. cond t found None) long ∙ e,
+  take-rest text 9 ∙ sym (ap (λ t. drop (cond t 9 0) text) h))
+
+-- a text whose header is lawful has it whole
+pub header-whole : (text : List ℕ) (m : Marks) → marksOf text ≡ Some m → headerLength text ≤ length text
+header-whole text m e =
+  cond-both (hasHeader text) 9 0 (λ n. n ≤ length text)
+  (λ h. long text m (sym (cond-true (hasHeader text) _ _ h) ∙ e))
+  (λ _. omega arith)
+  where
+    long : (text : List ℕ) (m : Marks) →
+      cond (leb 9 (length text) && eqb (getD text 7 0) 32) (marksIn (getD text 3 0) (getD text 4 0) (getD text 5 0) (getD text 6 0) (getD text 8 0)) None ≡ Some m → 9 ≤ length text
+    long text m =
+      cond-both (leb 9 (length text) && eqb (getD text 7 0) 32) _ _ (λ o. o ≡ Some m → 9 ≤ length text)
+      (λ h _. leb-true 9 (length text) (and-parts (leb 9 (length text)) _ h .0))
+      (λ _ e. let z : _≡_ {A = ℕ} 0 1 = cc in absurd (omega arith))
+
+if-lawful : (m n : Marks) → ifLawful n ≡ Some m → lawful m ≡ true
+if-lawful m n =
+  cond-both (lawful n) _ _ (λ o. o ≡ Some m → lawful m ≡ true)
+  (λ h e. let same : n ≡ m = cc in ap lawful (sym same) ∙ h)
+  (λ _ e. let z : _≡_ {A = ℕ} 0 1 = cc in absurd (omega arith))
+
+with-decimal-lawful : (c e r t : ℕ) (d : Option DecimalMark) (m : Marks) → withDecimal c e r t d ≡ Some m → lawful m ≡ true
+with-decimal-lawful c e r t None m h = let z : _≡_ {A = ℕ} 0 1 = cc in absurd (omega arith)
+with-decimal-lawful c e r t (Some d) m h = if-lawful m (record { component = c; element = e; decimal = d; release = r; terminator = t }) h
+
+-- the marks of a text are lawful
+pub marks-lawful : (text : List ℕ) (m : Marks) → marksOf text ≡ Some m → lawful m ≡ true
+marks-lawful text m =
+  cond-both (hasHeader text) _ _ (λ o. o ≡ Some m → lawful m ≡ true)
+  (λ _. cond-both (leb 9 (length text) && eqb (getD text 7 0) 32) _ _ (λ o. o ≡ Some m → lawful m ≡ true)
+    (λ _ e. with-decimal-lawful (getD text 3 0) (getD text 4 0) (getD text 6 0) (getD text 8 0) (decimalOf (getD text 5 0)) m e)
+    (λ _ e. let z : _≡_ {A = ℕ} 0 1 = cc in absurd (omega arith)))
+  (λ _ e. let same : usual ≡ m = cc in ap lawful (sym same))
+
+-- The cutter's first standing: b is the body, o bytes stand before it and j breaks are skipped.
+pub start-cut : (text b : List ℕ) (m : Marks) (o j : ℕ) → marksOf text ≡ Some m → b ≡ body text → o ≡ length text - length b → j ≡ cond (hasHeader text) (breakRun b) 0 →
+  cutFrom m (0 + 1) (o + j) (drop j b) ≡ cut text
+start-cut text b m o j e eb eo ej =
+  let whole = header-whole text m e in
+  let count : o ≡ headerLength text = omega (arith, eo, ap length eb ∙ length-drop (headerLength text) text) in
+  let breaks : j ≡ leadingBreaks text = ej ∙ ap (λ y. cond (hasHeader text) (breakRun y) 0) eb in
+  ap (λ y. cutFrom m 1 (y + j) (drop j b)) count
+  ∙ ap (λ y. cutFrom m 1 (headerLength text + y) (drop y b)) breaks
+  ∙ ap (λ y. cutFrom m 1 (headerLength text + leadingBreaks text) (drop (leadingBreaks text) y)) eb
+  ∙ sym (ap (cutWith text) e)
+
+pub body-within : (text b : List ℕ) → b ≡ body text → length b ≤ length text
+body-within text b e = omega (arith, ap length e ∙ length-drop (headerLength text) text)

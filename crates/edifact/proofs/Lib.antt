@@ -1,0 +1,6 @@
+pub mod Splits
+pub mod CharacterSteps
+pub mod Headers
+pub mod Tags
+pub mod Scans
+pub mod Cuts

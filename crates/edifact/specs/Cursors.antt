@@ -1,0 +1,66 @@
+-- What the values that borrow a text stand for.
+use mathlib.Core.Bool.{Bool, true, false, cond}
+use mathlib.Core.Path.{_≡_}
+use mathlib.Core.List.{List, [], _∷_, map}
+use Prim.Native.Nat.{ℕ, _+_}
+use lib.ListN.{length, drop}
+use denote.Ref.{now}
+use Rattle.std.specs.declared.option.Option.{Option}
+use Rattle.std.specs.declared.option.Option.the-variants.{Some, None}
+use Rattle.edifact.specs.declared.characters.Characters.{Characters}
+use Rattle.edifact.specs.declared.cutter.Cutter.{Cutter}
+use Rattle.edifact.specs.declared.fault.CutFault.{CutFault}
+use Rattle.edifact.specs.declared.marks.Marks.{Marks}
+use Rattle.edifact.specs.declared.pieces.Pieces.{Pieces}
+use Rattle.edifact.specs.declared.segment.Component.{Component}
+use Rattle.edifact.specs.declared.segment.Components.{Components}
+use Rattle.edifact.specs.declared.segment.Element.{Element}
+use Rattle.edifact.specs.declared.segment.Elements.{Elements}
+use Rattle.edifact.specs.declared.segment.Segment.{Segment}
+use Rattle.edifact.specs.Split.{split, characters}
+use Rattle.edifact.specs.Cutting.{Cut, Cutting, stopped, cutFrom}
+
+-- one step of a cursor: the first of what was left, or that nothing was
+abbrev pub Takes : {X : Type 0} → (before : List X) → Option X → (after : List X) → Type 0
+Takes before None after = (before ≡ []) × (after ≡ [])
+Takes before (Some x) after = before ≡ x ∷ after
+
+-- the pieces that are still to come
+abbrev pub piecesLeft : Pieces → List (List ℕ)
+piecesLeft c = cond (c .more) (split (c .release) (c .mark) false (now (c .rest))) []
+
+-- the characters that are still to come
+abbrev pub charactersLeft : Characters → List ℕ
+charactersLeft c = characters (c .release) false (now (c .rest))
+
+-- an element or a component: its bytes as the text has them, with the text's marks
+pub record Part : Type 0 where
+  pub marks : Marks
+  pub bytes : List ℕ
+
+abbrev pub part : Marks → List ℕ → Part
+part m bs = record { marks = m; bytes = bs }
+
+abbrev pub elementPart : Element → Part
+elementPart e = part (e .marks) (now (e .bytes))
+
+abbrev pub componentPart : Component → Part
+componentPart c = part (c .marks) (now (c .bytes))
+
+abbrev pub elementsLeft : Elements → List Part
+elementsLeft c = map (part (c .marks)) (piecesLeft (c .pieces))
+
+abbrev pub componentsLeft : Components → List Part
+componentsLeft c = map (part (c .marks)) (piecesLeft (c .pieces))
+
+-- the segment of a text that a segment value is
+abbrev pub cutOf : Segment → Cut
+cutOf s = record { marks = s .marks; number = s .number; first = s .first; bytes = now (s .bytes); tag = s .tag }
+
+abbrev pub unlessStopped : Option CutFault → Cutting → Cutting
+unlessStopped None c = c
+unlessStopped (Some f) c = stopped f
+
+-- what the cutter has still to tell
+abbrev pub remaining : Cutter → Cutting
+remaining c = unlessStopped (c .fault) (cutFrom (c .marks) (c .number + 1) (c .offset + c .at) (drop (c .at) (now (c .body))))

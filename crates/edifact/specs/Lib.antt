@@ -1,0 +1,9 @@
+pub mod Bytes
+pub mod Marks
+pub mod Faults
+pub mod Split
+pub mod Segments
+pub mod Cutting
+pub mod Scanning
+pub mod Cursors
+pub mod Laws

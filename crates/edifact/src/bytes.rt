@@ -1,0 +1,30 @@
+// What single bytes are.
+ghost use mathlib.Core.Path.{_≡_};
+ghost use Rattle.edifact.specs.Bytes.{allowed, lineBreak};
+ghost use Rattle.edifact.specs.Marks.{markable};
+
+// Whether `b` may stand in a segment.
+pub fn is_allowed(b: u8) -> bool
+    ensures { λ r. ⌜ r ≡ allowed b ⌝ }
+{
+    32 <= b && b <= 126
+}
+
+// Whether `b` is CR or LF.
+pub fn is_line_break(b: u8) -> bool
+    ensures { λ r. ⌜ r ≡ lineBreak b ⌝ }
+{
+    b == b'\r' || b == b'\n'
+}
+
+// Whether `b` may be a mark.
+pub fn is_markable(b: u8) -> bool
+    ensures { λ r. ⌜ r ≡ markable b ⌝ }
+{
+    33 <= b
+        && b <= 126
+        && !(b'A' <= b && b <= b'Z')
+        && !(b'a' <= b && b <= b'z')
+        && !(b'0' <= b && b <= b'9')
+        && b != b'-'
+}

@@ -1,0 +1,89 @@
+// What the cutter does.
+ghost use mathlib.Core.Path.{_≡_};
+ghost use mathlib.Core.Bool.{cond};
+ghost use Prim.Native.Nat.{_≤_};
+ghost use lib.ListN.{length};
+ghost use Rattle.std.specs.Results.{Cases as ByOk};
+ghost use Rattle.std.specs.Options.{Cases as BySome};
+ghost use Rattle.std.specs.declared.option.Option.the-variants.{Some};
+ghost use Rattle.edifact.specs.Marks.{hasHeader, marksOf};
+ghost use Rattle.edifact.specs.Bytes.{breakRun};
+ghost use Rattle.edifact.specs.Cutting.{cut, ended, stopped, push};
+ghost use Rattle.edifact.specs.Cursors.{remaining, cutOf};
+use crate::cutter::Cutter;
+use crate::fault::CutFault;
+use crate::header::has_header;
+use crate::header::read_header;
+use crate::marks::Marks;
+use crate::scan::break_count;
+use crate::scan::first_segment;
+use crate::segment::Segment;
+
+// How many CR and LF are skipped in front of the first segment: only behind a header.
+fn leading_breaks(text: &[u8], body: &[u8]) -> usize
+    ensures value { λ r. ⌜ r ≡ cond (hasHeader (now (text .entry))) (breakRun (now (body .entry))) 0 ⌝ }
+    ensures within { λ r. ⌜ r ≤ length (now (body .entry)) ⌝ }
+{
+    if has_header(text) { break_count(body) } else { 0 }
+}
+
+impl<'t> Cutter<'t> {
+    // A cutter in front of the first segment.
+    pub fn new(text: &'t [u8]) -> Cutter<'t>
+        ensures cuts { λ r. ⌜ remaining r ≡ cut (now (text .entry)) ⌝ }
+        ensures marks { λ r. ⌜ ((m : Marks) → marksOf (now (text .entry)) ≡ Some m → r .marks ≡ m) ⌝ }
+    {
+        let (marks, body) = match read_header(text) {
+            Ok(head) => head,
+            Err(fault) => {
+                return Cutter { marks: Marks::usual(), body: text, offset: 0, at: 0, number: 0, fault: Some(fault) };
+            }
+        };
+        let at = leading_breaks(text, body);
+        Cutter { marks, body, offset: text.len() - body.len(), at, number: 0, fault: None }
+    }
+
+    // The marks of the text, and the usual ones where its header is bad.
+    pub fn marks(&self) -> Marks
+        ensures { λ r. ⌜ r ≡ now (self .entry) .marks ⌝ }
+    {
+        self.marks
+    }
+
+    // The next segment, or none at the end of the text, or the fault at which it stops.
+    pub fn next(&mut self) -> Result<Option<Segment<'t>>, CutFault>
+        ensures tells { λ r. ⌜ ByOk r
+            (λ o. BySome o
+                ((remaining (now (self .entry)) ≡ ended) × (remaining (now (self .exit)) ≡ ended))
+                (λ s. remaining (now (self .entry)) ≡ push (cutOf s) (remaining (now (self .exit)))))
+            (λ f. (remaining (now (self .entry)) ≡ stopped f) × (remaining (now (self .exit)) ≡ stopped f)) ⌝ }
+        ensures marks { λ _. ⌜ now (self .exit) .marks ≡ now (self .entry) .marks ⌝ }
+    {
+        if let Some(fault) = self.fault {
+            return Err(fault);
+        }
+        let body = self.body;
+        let marks = self.marks;
+        let at = self.at;
+        if at == body.len() {
+            return Ok(None);
+        }
+        let number = self.number + 1;
+        let rest = &body[at..];
+        match first_segment(rest, marks, number) {
+            Ok(found) => {
+                let n = found.length;
+                let tag = found.tag;
+                let (bytes, behind) = rest.split_at(n);
+                let skipped = break_count(&behind[1..]);
+                self.at = at + (n + 1 + skipped);
+                self.number = number;
+                Ok(Some(Segment { marks, number, first: self.offset + at, bytes, tag }))
+            }
+            Err(fault) => {
+                self.fault = Some(fault);
+                Err(fault)
+            }
+        }
+    }
+}

@@ -1,0 +1,124 @@
+// Finding the segment with which bytes begin.
+ghost use mathlib.Core.Path.{_≡_};
+ghost use mathlib.Core.Bool.{false};
+ghost use Prim.Native.Nat.{_<_, _≤_};
+ghost use lib.ListN.{length as size};
+ghost use Rattle.std.specs.Vec.{made};
+ghost use Rattle.edifact.specs.Bytes.{breakRun};
+ghost use Rattle.edifact.specs.Split.{characters as charactersIn};
+ghost use Rattle.edifact.specs.Segments.{isTag, tagIn, tagOf};
+ghost use Rattle.edifact.specs.Scanning.{endIn, segmentIn};
+use crate::bytes::is_allowed;
+use crate::bytes::is_line_break;
+use crate::characters::Characters;
+use crate::characters::CharactersIterator;
+use crate::fault::CutFault;
+use crate::fault::Place;
+use crate::marks::Marks;
+use crate::pieces::first_piece;
+
+// Length and tag of a segment.
+#[derive(Clone, Copy, Drop)]
+pub struct Found {
+    pub length: usize,
+    pub tag: [u8; 3],
+}
+
+// The length of segment `number`, with which `text` begins.
+pub fn segment_end(text: &[u8], marks: Marks, number: usize) -> Result<usize, CutFault>
+    ensures value { λ r. ⌜ r ≡ endIn marks number (now (text .entry)) ⌝ }
+    ensures within { λ r. ⌜ made r (λ n. n < size (now (text .entry))) ⌝ }
+{
+    let mut i = 0;
+    let mut protected = false;
+    let mut element = 0;
+    let mut component = 1;
+    while i < text.len() {
+        let b = text[i];
+        if !protected && b != marks.release && b == marks.terminator {
+            return Ok(i);
+        }
+        if !is_allowed(b) {
+            return Err(CutFault::ForbiddenByte(Place { segment: number, element, component }));
+        }
+        if protected {
+            protected = false;
+        } else if b == marks.release {
+            protected = true;
+        } else if b == marks.element {
+            element += 1;
+            component = 1;
+        } else if b == marks.component {
+            component += 1;
+        }
+        i += 1;
+    }
+    Err(CutFault::UnendedSegment(Place { segment: number, element, component }))
+}
+
+// Whether three characters are a tag.
+pub fn is_tag(a: u8, b: u8, c: u8) -> bool
+    ensures { λ r. ⌜ r ≡ isTag a b c ⌝ }
+{
+    b'A' <= a
+        && a <= b'Z'
+        && b'A' <= b
+        && b <= b'Z'
+        && b'A' <= c
+        && c <= b'Z'
+        && !(a == b'U' && b == b'N' && c == b'A')
+}
+
+// The characters of `bytes`, if they are a tag.
+fn tag_in(bytes: &[u8], release: u8) -> Option<[u8; 3]>
+    ensures { λ r. ⌜ r ≡ tagIn (charactersIn release false (now (bytes .entry))) ⌝ }
+{
+    let mut characters = Characters::of(bytes, release);
+    let Some(a) = characters.next() else {
+        return None;
+    };
+    let Some(b) = characters.next() else {
+        return None;
+    };
+    let Some(c) = characters.next() else {
+        return None;
+    };
+    if let Some(_) = characters.next() {
+        return None;
+    }
+    if is_tag(a, b, c) { Some([a, b, c]) } else { None }
+}
+
+// The tag of a segment.
+pub fn tag_of(bytes: &[u8], marks: Marks) -> Option<[u8; 3]>
+    ensures { λ r. ⌜ r ≡ tagOf marks (now (bytes .entry)) ⌝ }
+{
+    let n = first_piece(bytes, marks.release, marks.element);
+    let (head, _) = bytes.split_at(n);
+    if first_piece(head, marks.release, marks.component) < n { None } else { tag_in(head, marks.release) }
+}
+
+// How many CR and LF `text` begins with.
+pub fn break_count(text: &[u8]) -> usize
+    ensures value { λ r. ⌜ r ≡ breakRun (now (text .entry)) ⌝ }
+    ensures within { λ r. ⌜ r ≤ size (now (text .entry)) ⌝ }
+{
+    let mut i = 0;
+    while i < text.len() && is_line_break(text[i]) {
+        i += 1;
+    }
+    i
+}
+
+// Length and tag of segment `number`, with which `text` begins.
+pub fn first_segment(text: &[u8], marks: Marks, number: usize) -> Result<Found, CutFault>
+    ensures value { λ r. ⌜ r ≡ segmentIn marks number (now (text .entry)) ⌝ }
+    ensures within { λ r. ⌜ made r (λ x. x .length < size (now (text .entry))) ⌝ }
+{
+    let length = segment_end(text, marks, number)?;
+    let (segment, _) = text.split_at(length);
+    match tag_of(segment, marks) {
+        Some(tag) => Ok(Found { length, tag }),
+        None => Err(CutFault::BadTag(number)),
+    }
+}
