@@ -4,3 +4,5 @@ pub mod Headers
 pub mod Tags
 pub mod Scans
 pub mod Cuts
+pub mod Numbers
+pub mod Steps

@@ -7,6 +7,8 @@ use lib.ListN.{length, drop}
 use denote.Ref.{now}
 use Rattle.std.specs.declared.option.Option.{Option}
 use Rattle.std.specs.declared.option.Option.the-variants.{Some, None}
+use Rattle.std.specs.declared.result.Result.{Result}
+use Rattle.std.specs.declared.result.Result.the-variants.{Ok, Err}
 use Rattle.edifact.specs.declared.characters.Characters.{Characters}
 use Rattle.edifact.specs.declared.cutter.Cutter.{Cutter}
 use Rattle.edifact.specs.declared.fault.CutFault.{CutFault}
@@ -18,7 +20,7 @@ use Rattle.edifact.specs.declared.segment.Element.{Element}
 use Rattle.edifact.specs.declared.segment.Elements.{Elements}
 use Rattle.edifact.specs.declared.segment.Segment.{Segment}
 use Rattle.edifact.specs.Split.{split, characters}
-use Rattle.edifact.specs.Cutting.{Cut, Cutting, stopped, cutFrom}
+use Rattle.edifact.specs.Cutting.{Cut, Cutting, ended, stopped, push, cutFrom}
 
 -- one step of a cursor: the first of what was left, or that nothing was
 abbrev pub Takes : {X : Type 0} → (before : List X) → Option X → (after : List X) → Type 0
@@ -64,3 +66,9 @@ unlessStopped (Some f) c = stopped f
 -- what the cutter has still to tell
 abbrev pub remaining : Cutter → Cutting
 remaining c = unlessStopped (c .fault) (cutFrom (c .marks) (c .number + 1) (c .offset + c .at) (drop (c .at) (now (c .body))))
+
+-- one step of the cutter: the next segment; or that the text ended, or the fault at which it stops, and then it stays so
+abbrev pub Tells : (before : Cutting) → Result (Option Segment) CutFault → (after : Cutting) → Type 0
+Tells before (Ok None) after = (before ≡ ended) × (after ≡ ended)
+Tells before (Ok (Some s)) after = before ≡ push (cutOf s) after
+Tells before (Err f) after = (before ≡ stopped f) × (after ≡ stopped f)

@@ -3,13 +3,11 @@ ghost use mathlib.Core.Path.{_≡_};
 ghost use mathlib.Core.Bool.{cond};
 ghost use Prim.Native.Nat.{_≤_};
 ghost use lib.ListN.{length};
-ghost use Rattle.std.specs.Results.{Cases as ByOk};
-ghost use Rattle.std.specs.Options.{Cases as BySome};
 ghost use Rattle.std.specs.declared.option.Option.the-variants.{Some};
 ghost use Rattle.edifact.specs.Marks.{hasHeader, marksOf};
 ghost use Rattle.edifact.specs.Bytes.{breakRun};
-ghost use Rattle.edifact.specs.Cutting.{cut, ended, stopped, push};
-ghost use Rattle.edifact.specs.Cursors.{remaining, cutOf};
+ghost use Rattle.edifact.specs.Cutting.{cut};
+ghost use Rattle.edifact.specs.Cursors.{remaining, Tells};
 use crate::cutter::Cutter;
 use crate::fault::CutFault;
 use crate::header::has_header;
@@ -52,11 +50,7 @@ impl<'t> Cutter<'t> {
 
     // The next segment, or none at the end of the text, or the fault at which it stops.
     pub fn next(&mut self) -> Result<Option<Segment<'t>>, CutFault>
-        ensures tells { λ r. ⌜ ByOk r
-            (λ o. BySome o
-                ((remaining (now (self .entry)) ≡ ended) × (remaining (now (self .exit)) ≡ ended))
-                (λ s. remaining (now (self .entry)) ≡ push (cutOf s) (remaining (now (self .exit)))))
-            (λ f. (remaining (now (self .entry)) ≡ stopped f) × (remaining (now (self .exit)) ≡ stopped f)) ⌝ }
+        ensures tells { λ r. ⌜ Tells (remaining (now (self .entry))) r (remaining (now (self .exit))) ⌝ }
         ensures marks { λ _. ⌜ now (self .exit) .marks ≡ now (self .entry) .marks ⌝ }
     {
         if let Some(fault) = self.fault {

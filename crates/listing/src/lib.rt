@@ -1,0 +1,2 @@
+// What the program prints of a text that is cut.
+pub mod plain;
