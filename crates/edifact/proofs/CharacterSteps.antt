@@ -1,34 +1,57 @@
-use mathlib.Core.Path.{_≡_, refl, sym, ap, subst, _∙_}
-use mathlib.Core.Bool.{Bool, true, false, cond, not, _&&_}
-use mathlib.Core.List.{List, [], _∷_, _++_, append-nil, append-assoc}
-use Prim.Native.Nat.{ℕ, suc, _+_, _-_, _≤_, _<_}
+-- One character more, in the loops over a component's bytes.
+use mathlib.Core.Path.{_≡_, refl, sym, ap, _∙_}
+use mathlib.Core.Bool.{Bool, true, false, cond, _&&_}
+use mathlib.Core.List.{List, [], _∷_}
+use Prim.Native.Nat.{ℕ, suc, _+_, _≤_, _<_}
 use native.Mathlib.Omega.{arith}
-use lib.Dec.{leb, eqb, ltb}
-use lib.ListN.{length, getD, take, drop}
-use borrow.Author.Needs.{needs}
-use Rattle.std.proofs.shelf.Lists.{at-drop-more, at-drop-all, take-rest, append-cancel-left, take-append-drop, take-more, take-all, drop-more}
-use Rattle.std.proofs.shelf.Tests.{cond-both, cond-true, cond-false, eq-eqb, ne-eqb}
-use Rattle.std.proofs.shelf.Ways.{tells}
+use lib.Dec.{eqb, ltb}
+use lib.ListN.{length, getD, drop}
+use Rattle.std.proofs.shelf.Lists.{at-drop-more, at-drop-all}
+use Rattle.std.proofs.shelf.Tests.{cond-both, ne-eqb, le-ltb}
+use Rattle.std.specs.declared.option.Option.{Option}
+use Rattle.std.specs.declared.option.Option.the-variants.{Some, None}
+use Rattle.edifact.specs.declared.characters.FoundCharacter.{FoundCharacter}
 use Rattle.edifact.specs.Marks.{same}
 use Rattle.edifact.specs.Split.{releases, characters}
+use Rattle.edifact.specs.Scanning.{characterIn}
 
-pub characters-none : (rl : ℕ) (r : Bool) (bs : List ℕ) → length bs ≡ 0 → characters rl r bs ≡ []
-characters-none rl r [] h = refl
-characters-none rl r (b ∷ bs) h = absurd (omega arith)
+-- two bytes or more begin with a character
+two-bytes : (rl b x : ℕ) (bs : List ℕ) →
+  characterIn rl (b ∷ x ∷ bs) ≡ cond (eqb b rl) (Some (record { character = x; length = 2 })) (Some (record { character = b; length = 1 }))
+two-bytes rl b x bs =
+  let pair : Option FoundCharacter = Some (record { character = x; length = 2 }) in
+  let plain : Option FoundCharacter = Some (record { character = b; length = 1 }) in
+  ap (λ t. cond t None (cond (eqb b rl) (cond (ltb (length (b ∷ x ∷ bs)) 2) None pair) plain)) (ne-eqb (length (b ∷ x ∷ bs)) 0 (λ z. omega arith))
+  ∙ ap (λ t. cond (eqb b rl) (cond t None pair) plain) (le-ltb (length (b ∷ x ∷ bs)) 2 (omega arith))
 
-pub characters-plain : (rl : ℕ) (bs : List ℕ) → 0 < length bs → (getD bs 0 0 ≡ rl → ⊥) → characters rl false bs ≡ getD bs 0 0 ∷ characters rl false (take (length bs - 1) (drop 1 bs))
-characters-plain rl [] h ne = absurd (omega arith)
-characters-plain rl (b ∷ bs) h ne = ap (λ t. cond t (characters rl t bs) (b ∷ characters rl t bs)) (ne-eqb b rl ne) ∙ ap (λ x. b ∷ characters rl false x) (sym (take-rest (b ∷ bs) 1))
+-- the first character, and the characters behind it
+pub characters-next : (rl : ℕ) (bs : List ℕ) (f : FoundCharacter) → characterIn rl bs ≡ Some f → characters rl false bs ≡ f .character ∷ characters rl false (drop (f .length) bs)
+characters-next rl [] f e = let z : _≡_ {A = ℕ} 0 1 = cc in absurd (omega arith)
+characters-next rl (b ∷ []) f e =
+  (elim (eqb b rl) as (λ t. cond t None (Some (record { character = b; length = 1 })) ≡ Some f → cond t [] (b ∷ []) ≡ f .character ∷ characters rl false (drop (f .length) (b ∷ [])))
+  [ true ↦ λ g. let z : _≡_ {A = ℕ} 0 1 = cc in absurd (omega arith)
+  | false ↦ λ g. let same : record { character = b; length = 1 } ≡ f = cc in ap (λ (y : FoundCharacter). y .character ∷ characters rl false (drop (y .length) (b ∷ []))) same ]) e
+characters-next rl (b ∷ x ∷ bs) f e =
+  (elim (eqb b rl)
+  as (λ t. cond t (Some (record { character = x; length = 2 })) (Some (record { character = b; length = 1 })) ≡ Some f →
+    cond t (characters rl t (x ∷ bs)) (b ∷ characters rl t (x ∷ bs)) ≡ f .character ∷ characters rl false (drop (f .length) (b ∷ x ∷ bs)))
+  [ true ↦ λ g. let same : record { character = x; length = 2 } ≡ f = cc in ap (λ (y : FoundCharacter). y .character ∷ characters rl false (drop (y .length) (b ∷ x ∷ bs))) same
+  | false ↦ λ g. let same : record { character = b; length = 1 } ≡ f = cc in ap (λ (y : FoundCharacter). y .character ∷ characters rl false (drop (y .length) (b ∷ x ∷ bs))) same ])
+  (sym (two-bytes rl b x bs) ∙ e)
 
-pub characters-hung : (rl : ℕ) (bs : List ℕ) → getD bs 0 0 ≡ rl → length bs < 2 → characters rl false bs ≡ []
-characters-hung rl [] e h = refl
-characters-hung rl (b ∷ []) e h = ap (λ t. cond t [] (b ∷ [])) (eq-eqb b rl e)
-characters-hung rl (b ∷ x ∷ bs) e h = absurd (omega arith)
-
-pub characters-pair : (rl : ℕ) (bs : List ℕ) → getD bs 0 0 ≡ rl → 2 ≤ length bs → characters rl false bs ≡ getD bs 1 0 ∷ characters rl false (take (length bs - 2) (drop 2 bs))
-characters-pair rl [] e h = absurd (omega arith)
-characters-pair rl (b ∷ []) e h = absurd (omega arith)
-characters-pair rl (b ∷ x ∷ bs) e h = ap (λ t. cond t (characters rl t (x ∷ bs)) (b ∷ characters rl t (x ∷ bs))) (eq-eqb b rl e) ∙ ap (λ y. x ∷ characters rl false y) (sym (take-rest (b ∷ x ∷ bs) 2))
+-- no character: the bytes are none, or one release mark
+pub characters-none : (rl : ℕ) (bs : List ℕ) → characterIn rl bs ≡ None → characters rl false bs ≡ []
+characters-none rl [] e = refl
+characters-none rl (b ∷ []) e =
+  let plain : Option FoundCharacter = Some (record { character = b; length = 1 }) in
+  (elim (eqb b rl) as (λ t. cond t None plain ≡ None → cond t [] (b ∷ []) ≡ [])
+  [ true ↦ λ _. refl | false ↦ λ g. let z : _≡_ {A = ℕ} 0 1 = cc in absurd (omega arith) ]) e
+characters-none rl (b ∷ x ∷ bs) e =
+  let pair : Option FoundCharacter = Some (record { character = x; length = 2 }) in
+  let plain : Option FoundCharacter = Some (record { character = b; length = 1 }) in
+  (elim (eqb b rl) as (λ t. cond t pair plain ≡ None → characters rl false (b ∷ x ∷ bs) ≡ [])
+  [ true ↦ λ g. let z : _≡_ {A = ℕ} 0 1 = cc in absurd (omega arith) | false ↦ λ g. let z : _≡_ {A = ℕ} 0 1 = cc in absurd (omega arith) ])
+  (sym (two-bytes rl b x bs) ∙ e)
 
 pub count-more : (rl : ℕ) (r : Bool) (s : List ℕ) (i : ℕ) → i < length s →
   length (characters rl r (drop i s)) ≡ cond (releases rl r (getD s i 0)) (length (characters rl true (drop (i + 1) s))) (suc (length (characters rl false (drop (i + 1) s))))

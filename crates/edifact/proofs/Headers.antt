@@ -10,11 +10,12 @@ use Rattle.std.proofs.shelf.Lists.{take-rest, length-drop}
 use Rattle.std.proofs.shelf.Tests.{and-from, and-parts, eq-eqb, le-leb, leb-true, cond-both, cond-true}
 use Rattle.std.specs.declared.option.Option.{Option}
 use Rattle.std.specs.declared.option.Option.the-variants.{Some, None}
+use Rattle.edifact.specs.declared.fault.CutFault.{CutFault}
+use Rattle.edifact.specs.declared.fault.CutFault.the-variants.{BadHeader}
 use Rattle.edifact.specs.declared.marks.Marks.{Marks}
-use Rattle.edifact.specs.declared.marks.DecimalMark.{DecimalMark}
 use Rattle.edifact.specs.Bytes.{breakRun}
-use Rattle.edifact.specs.Marks.{lawful, ifLawful, withDecimal, decimalOf, hasHeader, headerLength, marksIn, marksOf, body, usual}
-use Rattle.edifact.specs.Cutting.{cutFrom, leadingBreaks, cutWith, cut}
+use Rattle.edifact.specs.Marks.{hasHeader, headerLength, marksIn, marksOf, body, usual}
+use Rattle.edifact.specs.Cutting.{stopped, cutFrom, leadingBreaks, cutWith, cut}
 
 pub header-read : (text : List ℕ) (m : Marks) → hasHeader text ≡ true → 9 ≤ length text → getD text 7 0 ≡ 32 →
   marksIn (getD text 3 0) (getD text 4 0) (getD text 5 0) (getD text 6 0) (getD text 8 0) ≡ Some m →
@@ -39,36 +40,20 @@ header-whole text m e =
       (λ h _. leb-true 9 (length text) (and-parts (leb 9 (length text)) _ h .0))
       (λ _ e. let z : _≡_ {A = ℕ} 0 1 = cc in absurd (omega arith))
 
-if-lawful : (m n : Marks) → ifLawful n ≡ Some m → lawful m ≡ true
-if-lawful m n =
-  cond-both (lawful n) _ _ (λ o. o ≡ Some m → lawful m ≡ true)
-  (λ h e. let same : n ≡ m = cc in ap lawful (sym same) ∙ h)
-  (λ _ e. let z : _≡_ {A = ℕ} 0 1 = cc in absurd (omega arith))
-
-with-decimal-lawful : (c e r t : ℕ) (d : Option DecimalMark) (m : Marks) → withDecimal c e r t d ≡ Some m → lawful m ≡ true
-with-decimal-lawful c e r t None m h = let z : _≡_ {A = ℕ} 0 1 = cc in absurd (omega arith)
-with-decimal-lawful c e r t (Some d) m h = if-lawful m (record { component = c; element = e; decimal = d; release = r; terminator = t }) h
-
--- the marks of a text are lawful
-pub marks-lawful : (text : List ℕ) (m : Marks) → marksOf text ≡ Some m → lawful m ≡ true
-marks-lawful text m =
-  cond-both (hasHeader text) _ _ (λ o. o ≡ Some m → lawful m ≡ true)
-  (λ _. cond-both (leb 9 (length text) && eqb (getD text 7 0) 32) _ _ (λ o. o ≡ Some m → lawful m ≡ true)
-    (λ _ e. with-decimal-lawful (getD text 3 0) (getD text 4 0) (getD text 6 0) (getD text 8 0) (decimalOf (getD text 5 0)) m e)
-    (λ _ e. let z : _≡_ {A = ℕ} 0 1 = cc in absurd (omega arith)))
-  (λ _ e. let same : usual ≡ m = cc in ap lawful (sym same))
+-- the header and the body make up the text
+pub header-body : (text b : List ℕ) (m : Marks) → marksOf text ≡ Some m → b ≡ body text → headerLength text + length b ≡ length text
+header-body text b m e eb = omega (arith, header-whole text m e, ap length eb ∙ length-drop (headerLength text) text)
 
 -- The cutter's first standing: b is the body, o bytes stand before it and j breaks are skipped.
-pub start-cut : (text b : List ℕ) (m : Marks) (o j : ℕ) → marksOf text ≡ Some m → b ≡ body text → o ≡ length text - length b → j ≡ cond (hasHeader text) (breakRun b) 0 →
+pub start-cut : (text b : List ℕ) (m : Marks) (o j : ℕ) → marksOf text ≡ Some m → b ≡ body text → o ≡ headerLength text → j ≡ cond (hasHeader text) (breakRun b) 0 →
   cutFrom m (0 + 1) (o + j) (drop j b) ≡ cut text
 start-cut text b m o j e eb eo ej =
-  let whole = header-whole text m e in
-  let count : o ≡ headerLength text = omega (arith, eo, ap length eb ∙ length-drop (headerLength text) text) in
   let breaks : j ≡ leadingBreaks text = ej ∙ ap (λ y. cond (hasHeader text) (breakRun y) 0) eb in
-  ap (λ y. cutFrom m 1 (y + j) (drop j b)) count
+  ap (λ y. cutFrom m 1 (y + j) (drop j b)) eo
   ∙ ap (λ y. cutFrom m 1 (headerLength text + y) (drop y b)) breaks
   ∙ ap (λ y. cutFrom m 1 (headerLength text + leadingBreaks text) (drop (leadingBreaks text) y)) eb
   ∙ sym (ap (cutWith text) e)
 
-pub body-within : (text b : List ℕ) → b ≡ body text → length b ≤ length text
-body-within text b e = omega (arith, ap length e ∙ length-drop (headerLength text) text)
+-- a text with a bad header is stopped at once
+pub start-stopped : (text : List ℕ) (f : CutFault) → marksOf text ≡ None → f ≡ BadHeader → stopped f ≡ cut text
+start-stopped text f e ef = ap stopped ef ∙ sym (ap (cutWith text) e)

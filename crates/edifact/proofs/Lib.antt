@@ -1,8 +1,15 @@
 pub mod Splits
 pub mod CharacterSteps
-pub mod Headers
 pub mod Tags
 pub mod Scans
+pub mod Lawfulness
+pub mod Headers
+pub mod Wholes
+pub mod Breaks
+pub mod PartsWhole
 pub mod Cuts
+pub mod OnlyCut
+pub mod JoinsBack
+pub mod Spelling
 pub mod Numbers
 pub mod Steps

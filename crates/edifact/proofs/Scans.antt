@@ -14,32 +14,13 @@ use Rattle.std.specs.declared.result.Result.{Result}
 use Rattle.std.specs.declared.result.Result.the-variants.{Ok, Err}
 use Rattle.edifact.specs.declared.fault.CutFault.{CutFault}
 use Rattle.edifact.specs.declared.fault.CutFault.the-variants.{ForbiddenByte, UnendedSegment}
-use Rattle.edifact.specs.declared.fault.Place.{Place}
 use Rattle.edifact.specs.declared.marks.Marks.{Marks}
 use Rattle.edifact.specs.Bytes.{allowed, allowedRun}
 use Rattle.edifact.specs.Split.{releases, divides, onto, split, reach}
 use Rattle.edifact.specs.Segments.{elements, components, lastOf, placeBehind}
-use Rattle.edifact.specs.Scanning.{bounded, endIn}
+use Rattle.edifact.specs.declared.scan.Standing.{Standing}
+use Rattle.edifact.specs.Scanning.{after, start, placed, bounded, endIn}
 use Rattle.edifact.proofs.Splits.{split-some, divides-is, length-onto, ltb-suc, reach-within}
-
--- where the scanner stands
-pub record Standing : Type 0 where
-  pub protected : Bool
-  pub element : ℕ
-  pub component : ℕ
-
-abbrev pub start : Standing
-start = record { protected = false; element = 0; component = 1 }
-
--- the standing as a place of segment k
-abbrev pub placed : ℕ → Standing → Place
-placed k p = record { segment = k; element = p .element; component = p .component }
-
-abbrev pub after : Marks → Standing → ℕ → Standing
-after m p b = record {
-  protected = releases (m .release) (p .protected) b;
-  element = cond (divides (m .release) (m .element) (p .protected) b) (p .element + 1) (p .element);
-  component = cond (divides (m .release) (m .element) (p .protected) b) 1 (cond (divides (m .release) (m .component) (p .protected) b) (p .component + 1) (p .component)) }
 
 abbrev pub scan : Marks → (k : ℕ) → Standing → ℕ → List ℕ → Result ℕ CutFault
 scan m k p i [] = Err (UnendedSegment (placed k p))

@@ -20,6 +20,7 @@ use Rattle.edifact.specs.declared.segment.Element.{Element}
 use Rattle.edifact.specs.declared.segment.Elements.{Elements}
 use Rattle.edifact.specs.declared.segment.Segment.{Segment}
 use Rattle.edifact.specs.Split.{split, characters}
+use Rattle.edifact.specs.Laws.{IsCut}
 use Rattle.edifact.specs.Cutting.{Cut, Cutting, ended, stopped, push, cutFrom}
 
 -- one step of a cursor: the first of what was left, or that nothing was
@@ -72,3 +73,9 @@ abbrev pub Tells : (before : Cutting) → Result (Option Segment) CutFault → (
 Tells before (Ok None) after = (before ≡ ended) × (after ≡ ended)
 Tells before (Ok (Some s)) after = before ≡ push (cutOf s) after
 Tells before (Err f) after = (before ≡ stopped f) × (after ≡ stopped f)
+
+-- a segment that the cutter hands out is cut
+abbrev pub HandsOut : Result (Option Segment) CutFault → Type 0
+HandsOut (Ok None) = Unit {0}
+HandsOut (Ok (Some s)) = IsCut (cutOf s)
+HandsOut (Err f) = Unit {0}

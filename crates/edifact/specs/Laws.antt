@@ -9,7 +9,7 @@ use Rattle.std.specs.declared.option.Option.{Option}
 use Rattle.std.specs.declared.option.Option.the-variants.{Some, None}
 use Rattle.edifact.specs.declared.marks.Marks.{Marks}
 use Rattle.edifact.specs.Bytes.{allowed, lineBreak}
-use Rattle.edifact.specs.Marks.{hasHeader, headerLength, marksOf, body}
+use Rattle.edifact.specs.Marks.{lawful, hasHeader, headerLength, marksOf, body}
 use Rattle.edifact.specs.Split.{releases, join, characters}
 use Rattle.edifact.specs.Segments.{tagIn, partsOf}
 use Rattle.edifact.specs.Cutting.{Cut, Cutting, cut}
@@ -99,6 +99,13 @@ OnlyCut text =
   (m : Marks) (leading : List ℕ) (ws : List Written) → Composed text m leading ws →
   (cut text ≡ record { segments = cutsAs text m leading ws; fault = None })
   × (map (λ s. partsOf (s .marks) (s .bytes)) (cut text .segments) ≡ map (λ w. w .elements) ws)
+
+-- what is true of every segment that is cut: its parts join to its bytes, each component is whole, and element 0 gives its tag
+pub record IsCut (s : Cut) : Type 0 where
+  pub marked : lawful (s .marks) ≡ true
+  pub joins : segmentBytes (s .marks) (partsOf (s .marks) (s .bytes)) ≡ s .bytes
+  pub whole : haveWhole (s .marks) (partsOf (s .marks) (s .bytes)) ≡ true
+  pub tagged : tagAmong (s .marks) (partsOf (s .marks) (s .bytes)) ≡ Some (s .tag)
 
 -- bytes and the characters they spell: a release mark and the byte behind it are that byte, any other byte is itself
 pub data Spells (release : ℕ) : List ℕ → List ℕ → Type 0 where

@@ -4,6 +4,6 @@ pub mod Faults
 pub mod Split
 pub mod Segments
 pub mod Cutting
+pub mod Laws
 pub mod Scanning
 pub mod Cursors
-pub mod Laws

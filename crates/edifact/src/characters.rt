@@ -1,10 +1,38 @@
 // The characters of a component: release marks out.
 ghost use mathlib.Core.Path.{_≡_};
 ghost use mathlib.Core.Bool.{false};
-ghost use lib.ListN.{length};
+ghost use Prim.Native.Nat.{_≤_};
+ghost use lib.ListN.{length as size};
+ghost use Rattle.std.specs.Options.{Cases};
 ghost use Rattle.edifact.specs.Marks.{same};
 ghost use Rattle.edifact.specs.Split.{characters as charactersIn};
+ghost use Rattle.edifact.specs.Scanning.{characterIn};
 ghost use Rattle.edifact.specs.Cursors.{Takes, charactersLeft};
+use crate::bytes::is_release;
+
+// A character, and how many bytes of the text it takes.
+#[derive(Clone, Copy, Drop)]
+pub struct FoundCharacter {
+    pub character: u8,
+    pub length: usize,
+}
+
+// The character with which `bytes` begins: a release mark and the byte behind it are one.
+fn first_character(bytes: &[u8], release: u8) -> Option<FoundCharacter>
+    ensures value { λ r. ⌜ r ≡ characterIn release (now (bytes .entry)) ⌝ }
+    ensures within { λ r. ⌜ Cases r (Unit {0}) (λ x. x .length ≤ size (now (bytes .entry))) ⌝ }
+{
+    if bytes.len() == 0 {
+        return None;
+    }
+    if bytes[0] != release {
+        return Some(FoundCharacter { character: bytes[0], length: 1 });
+    }
+    if bytes.len() < 2 {
+        return None;
+    }
+    Some(FoundCharacter { character: bytes[1], length: 2 })
+}
 
 // The characters that are still to come.
 #[derive(Clone, Copy, Drop)]
@@ -28,38 +56,30 @@ pub impl<'t> Iterator for Characters<'t> as CharactersIterator {
 
     ghost ends = { λ _. Unit {0} };
 
-    ghost left = { λ s. length (charactersLeft s) };
+    ghost left = { λ s. size (charactersLeft s) };
 
     fn next(&mut self) -> Option<u8> {
         let rest = self.rest;
-        if rest.len() == 0 {
-            return None;
+        match first_character(rest, self.release) {
+            Some(found) => {
+                let (_, behind) = rest.split_at(found.length);
+                self.rest = behind;
+                Some(found.character)
+            }
+            None => None,
         }
-        let first = rest[0];
-        if first != self.release {
-            self.rest = &rest[1..];
-            return Some(first);
-        }
-        if rest.len() < 2 {
-            return None;
-        }
-        let second = rest[1];
-        self.rest = &rest[2..];
-        Some(second)
     }
 }
 
 // How many characters `bytes` has.
 pub fn character_count(bytes: &[u8], release: u8) -> usize
-    ensures { λ r. ⌜ r ≡ length (charactersIn release false (now (bytes .entry))) ⌝ }
+    ensures { λ r. ⌜ r ≡ size (charactersIn release false (now (bytes .entry))) ⌝ }
 {
     let mut count = 0;
     let mut protected = false;
     for b in bytes {
-        if !protected && *b == release {
-            protected = true;
-        } else {
-            protected = false;
+        protected = is_release(*b, release, protected);
+        if !protected {
             count += 1;
         }
     }

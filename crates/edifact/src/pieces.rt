@@ -8,6 +8,8 @@ ghost use Rattle.std.specs.Options.{mapped};
 ghost use Rattle.std.specs.Finite.{nth};
 ghost use Rattle.edifact.specs.Split.{split, reach};
 ghost use Rattle.edifact.specs.Cursors.{Takes, piecesLeft};
+use crate::bytes::is_mark;
+use crate::bytes::is_release;
 
 // The length of the first piece of `bytes`.
 pub fn first_piece(bytes: &[u8], release: u8, mark: u8) -> usize
@@ -18,13 +20,10 @@ pub fn first_piece(bytes: &[u8], release: u8, mark: u8) -> usize
     let mut protected = false;
     while i < bytes.len() {
         let b = bytes[i];
-        if protected {
-            protected = false;
-        } else if b == release {
-            protected = true;
-        } else if b == mark {
+        if is_mark(b, release, mark, protected) {
             return i;
         }
+        protected = is_release(b, release, protected);
         i += 1;
     }
     i
@@ -94,13 +93,10 @@ pub fn piece_count(bytes: &[u8], release: u8, mark: u8) -> usize
     let mut count = 1;
     let mut protected = false;
     for b in bytes {
-        if protected {
-            protected = false;
-        } else if *b == release {
-            protected = true;
-        } else if *b == mark {
+        if is_mark(*b, release, mark, protected) {
             count += 1;
         }
+        protected = is_release(*b, release, protected);
     }
     count
 }

@@ -1,15 +1,17 @@
 // Finding the segment with which bytes begin.
 ghost use mathlib.Core.Path.{_≡_};
 ghost use mathlib.Core.Bool.{false};
-ghost use Prim.Native.Nat.{_<_, _≤_};
+ghost use Prim.Native.Nat.{_+_, _^_, _<_, _≤_};
 ghost use lib.ListN.{length as size};
 ghost use Rattle.std.specs.Vec.{made};
 ghost use Rattle.edifact.specs.Bytes.{breakRun};
 ghost use Rattle.edifact.specs.Split.{characters as charactersIn};
 ghost use Rattle.edifact.specs.Segments.{isTag, tagIn, tagOf};
-ghost use Rattle.edifact.specs.Scanning.{endIn, segmentIn};
+ghost use Rattle.edifact.specs.Scanning.{after, placed, endIn, segmentIn};
 use crate::bytes::is_allowed;
 use crate::bytes::is_line_break;
+use crate::bytes::is_mark;
+use crate::bytes::is_release;
 use crate::characters::Characters;
 use crate::characters::CharactersIterator;
 use crate::fault::CutFault;
@@ -24,36 +26,57 @@ pub struct Found {
     pub tag: [u8; 3],
 }
 
+// Where a scan stands in a segment: whether the next byte is protected, and the element and component it is in.
+#[derive(Clone, Copy, Drop)]
+pub struct Standing {
+    protected: bool,
+    element: usize,
+    component: usize,
+}
+
+impl Standing {
+    // The standing behind one byte more.
+    fn behind(self, b: u8, marks: Marks) -> Standing
+        requires { ⌜ self .element + 1 < 2 ^ 64 ⌝ ∗ ⌜ self .component + 1 < 2 ^ 64 ⌝ }
+        ensures { λ r. ⌜ r ≡ after marks self b ⌝ }
+    {
+        let protected = is_release(b, marks.release, self.protected);
+        if is_mark(b, marks.release, marks.element, self.protected) {
+            Standing { protected, element: self.element + 1, component: 1 }
+        } else if is_mark(b, marks.release, marks.component, self.protected) {
+            Standing { protected, element: self.element, component: self.component + 1 }
+        } else {
+            Standing { protected, element: self.element, component: self.component }
+        }
+    }
+
+    // The component it is in, as a place of segment `segment`.
+    fn place(self, segment: usize) -> Place
+        ensures { λ r. ⌜ r ≡ placed segment self ⌝ }
+    {
+        Place { segment, element: self.element, component: self.component }
+    }
+}
+
 // The length of segment `number`, with which `text` begins.
 pub fn segment_end(text: &[u8], marks: Marks, number: usize) -> Result<usize, CutFault>
     ensures value { λ r. ⌜ r ≡ endIn marks number (now (text .entry)) ⌝ }
     ensures within { λ r. ⌜ made r (λ n. n < size (now (text .entry))) ⌝ }
 {
     let mut i = 0;
-    let mut protected = false;
-    let mut element = 0;
-    let mut component = 1;
+    let mut standing = Standing { protected: false, element: 0, component: 1 };
     while i < text.len() {
         let b = text[i];
-        if !protected && b != marks.release && b == marks.terminator {
+        if is_mark(b, marks.release, marks.terminator, standing.protected) {
             return Ok(i);
         }
         if !is_allowed(b) {
-            return Err(CutFault::ForbiddenByte(Place { segment: number, element, component }));
+            return Err(CutFault::ForbiddenByte(standing.place(number)));
         }
-        if protected {
-            protected = false;
-        } else if b == marks.release {
-            protected = true;
-        } else if b == marks.element {
-            element += 1;
-            component = 1;
-        } else if b == marks.component {
-            component += 1;
-        }
+        standing = standing.behind(b, marks);
         i += 1;
     }
-    Err(CutFault::UnendedSegment(Place { segment: number, element, component }))
+    Err(CutFault::UnendedSegment(standing.place(number)))
 }
 
 // Whether three characters are a tag.

@@ -10,6 +10,7 @@ ghost use Rattle.std.specs.Options.{mapped};
 ghost use Rattle.edifact.specs.Marks.{same};
 ghost use Rattle.edifact.specs.Split.{characters as charactersIn};
 ghost use Rattle.edifact.specs.Segments.{elements as elementsIn, components as componentsIn, componentAt, componentIn};
+ghost use Rattle.edifact.specs.Laws.{CharactersSpelled};
 ghost use Rattle.edifact.specs.Cursors.{Takes, part, elementPart, componentPart, elementsLeft, componentsLeft, charactersLeft};
 ghost use Rattle.std.specs.declared.option.Option.the-variants.{Some};
 use crate::characters::Characters;
@@ -184,7 +185,8 @@ impl<'t> Component<'t> {
 
     // Its characters: release marks out.
     pub fn characters(&self) -> Characters<'t>
-        ensures { λ r. ⌜ charactersLeft r ≡ charactersIn (now (self .entry) .marks .release) false (now (now (self .entry) .bytes)) ⌝ }
+        ensures value { λ r. ⌜ charactersLeft r ≡ charactersIn (now (self .entry) .marks .release) false (now (now (self .entry) .bytes)) ⌝ }
+        ensures spelled { λ _. ⌜ CharactersSpelled (now (self .entry) .marks) (now (now (self .entry) .bytes)) ⌝ }
     {
         Characters::of(self.bytes, self.marks.release)
     }

@@ -1,13 +1,14 @@
 // What the cutter does.
 ghost use mathlib.Core.Path.{_≡_};
 ghost use mathlib.Core.Bool.{cond};
-ghost use Prim.Native.Nat.{_≤_};
+ghost use Prim.Native.Nat.{_+_, _≤_};
 ghost use lib.ListN.{length};
-ghost use Rattle.std.specs.declared.option.Option.the-variants.{Some};
-ghost use Rattle.edifact.specs.Marks.{hasHeader, marksOf};
+ghost use Rattle.std.specs.Options.{valueOr};
+ghost use Rattle.edifact.specs.Marks.{hasHeader, headerLength, marksOf, usual};
 ghost use Rattle.edifact.specs.Bytes.{breakRun};
 ghost use Rattle.edifact.specs.Cutting.{cut};
-ghost use Rattle.edifact.specs.Cursors.{remaining, Tells};
+ghost use Rattle.edifact.specs.Laws.{JoinsBack, OnlyCut};
+ghost use Rattle.edifact.specs.Cursors.{remaining, Tells, HandsOut};
 use crate::cutter::Cutter;
 use crate::fault::CutFault;
 use crate::header::has_header;
@@ -16,6 +17,13 @@ use crate::marks::Marks;
 use crate::scan::break_count;
 use crate::scan::first_segment;
 use crate::segment::Segment;
+
+// How many bytes the header has.
+fn header_length(text: &[u8]) -> usize
+    ensures { λ r. ⌜ r ≡ headerLength (now (text .entry)) ⌝ }
+{
+    if has_header(text) { 9 } else { 0 }
+}
 
 // How many CR and LF are skipped in front of the first segment: only behind a header.
 fn leading_breaks(text: &[u8], body: &[u8]) -> usize
@@ -29,7 +37,9 @@ impl<'t> Cutter<'t> {
     // A cutter in front of the first segment.
     pub fn new(text: &'t [u8]) -> Cutter<'t>
         ensures cuts { λ r. ⌜ remaining r ≡ cut (now (text .entry)) ⌝ }
-        ensures marks { λ r. ⌜ ((m : Marks) → marksOf (now (text .entry)) ≡ Some m → r .marks ≡ m) ⌝ }
+        ensures joins { λ _. ⌜ JoinsBack (now (text .entry)) ⌝ }
+        ensures only { λ _. ⌜ OnlyCut (now (text .entry)) ⌝ }
+        ensures marks { λ r. ⌜ r .marks ≡ valueOr (marksOf (now (text .entry))) usual ⌝ }
     {
         let (marks, body) = match read_header(text) {
             Ok(head) => head,
@@ -38,7 +48,7 @@ impl<'t> Cutter<'t> {
             }
         };
         let at = leading_breaks(text, body);
-        Cutter { marks, body, offset: text.len() - body.len(), at, number: 0, fault: None }
+        Cutter { marks, body, offset: header_length(text), at, number: 0, fault: None }
     }
 
     // The marks of the text, and the usual ones where its header is bad.
@@ -48,9 +58,24 @@ impl<'t> Cutter<'t> {
         self.marks
     }
 
+    // Where the next segment begins in the whole text.
+    fn position(&self) -> usize
+        ensures { λ r. ⌜ r ≡ now (self .entry) .offset + now (self .entry) .at ⌝ }
+    {
+        self.offset + self.at
+    }
+
+    // The number of the next segment.
+    fn next_number(&self) -> usize
+        ensures { λ r. ⌜ r ≡ now (self .entry) .number + 1 ⌝ }
+    {
+        self.number + 1
+    }
+
     // The next segment, or none at the end of the text, or the fault at which it stops.
     pub fn next(&mut self) -> Result<Option<Segment<'t>>, CutFault>
         ensures tells { λ r. ⌜ Tells (remaining (now (self .entry))) r (remaining (now (self .exit))) ⌝ }
+        ensures whole { λ r. ⌜ HandsOut r ⌝ }
         ensures marks { λ _. ⌜ now (self .exit) .marks ≡ now (self .entry) .marks ⌝ }
     {
         if let Some(fault) = self.fault {
@@ -62,7 +87,8 @@ impl<'t> Cutter<'t> {
         if at == body.len() {
             return Ok(None);
         }
-        let number = self.number + 1;
+        let number = self.next_number();
+        let first = self.position();
         let rest = &body[at..];
         match first_segment(rest, marks, number) {
             Ok(found) => {
@@ -72,7 +98,7 @@ impl<'t> Cutter<'t> {
                 let skipped = break_count(&behind[1..]);
                 self.at = at + (n + 1 + skipped);
                 self.number = number;
-                Ok(Some(Segment { marks, number, first: self.offset + at, bytes, tag }))
+                Ok(Some(Segment { marks, number, first, bytes, tag }))
             }
             Err(fault) => {
                 self.fault = Some(fault);

@@ -9,5 +9,5 @@ loop-i-again c = grind (arith, tells, reach-more)
 pub returns : need.returns
 returns c = record { value = grind (arith, reach-done); within = omega arith }
 
-pub returns-then-b-mark : need.returns-then-b-mark
-returns-then-b-mark c = record { value = grind (arith, tells, reach-more); within = omega arith }
+pub returns-then-is-mark : need.returns-then-is-mark
+returns-then-is-mark c = record { value = grind (arith, tells, reach-more); within = omega arith }

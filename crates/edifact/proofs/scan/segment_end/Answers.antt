@@ -4,8 +4,8 @@ use Rattle.std.proofs.shelf.Ways.{tells}
 use Rattle.edifact.proofs.Scans.{scan-more, scan-done, scan-segment}
 use Rattle.edifact.proofs.scan.segment_end.Needs as need
 
-pub returns-then-b-marks-2 : need.returns-then-b-marks-2
-returns-then-b-marks-2 c = record { value = grind (arith, tells, scan-more, scan-segment); within = search needs }
+pub returns-then-is-mark : need.returns-then-is-mark
+returns-then-is-mark c = record { value = grind (arith, tells, scan-more, scan-segment); within = search needs }
 
 pub returns-then-not-is-allowed : need.returns-then-not-is-allowed
 returns-then-not-is-allowed c = record { value = grind (arith, tells, scan-more, scan-segment); within = search needs }

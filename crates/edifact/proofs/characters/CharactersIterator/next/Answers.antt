@@ -1,19 +1,21 @@
-use mathlib.Core.Path.{_≡_}
+use mathlib.Core.Path.{_≡_, sym, ap, _∙_}
+use mathlib.Core.List.{_∷_}
+use mathlib.Core.Bool.{false}
 use native.Mathlib.Omega.{arith}
 use lib.ListN.{length}
-use Rattle.edifact.proofs.CharacterSteps.{characters-none, characters-plain, characters-hung, characters-pair}
+use Rattle.edifact.specs.Split.{characters}
+use Rattle.edifact.specs.Cursors.{charactersLeft}
+use Rattle.edifact.proofs.CharacterSteps.{characters-none, characters-next}
 use Rattle.edifact.proofs.characters.CharactersIterator.next.Needs as need
 
-pub returns-then-rest-eq0 : need.returns-then-rest-eq0
-returns-then-rest-eq0 c =
-  let e : length (c .args .self .now .rest .now) ≡ 0 = omega arith in
-  record { steps = (characters-none _ _ _ e, characters-none _ _ _ e); goes = record { on = λ _. tt } }
+pub returns-in-Some : need.returns-in-Some
+returns-in-Some c =
+  let rl = c .args .self .now .release in
+  let e : charactersLeft (c .args .self .now) ≡ c .in-Some .found .character ∷ characters rl false (c .split-at .result .1 .now)
+      = characters-next rl (c .args .self .now .rest .now) (c .in-Some .found) (sym (c .in-Some .ensures tt .value)) ∙ ap (λ y. c .in-Some .found .character ∷ characters rl false y) (sym (c .split-at .ensures .back)) in
+  record { steps = e; goes = record { on = λ _. (tt, tt, omega (arith, ap length e)) } }
 
-pub returns-then-first-self : need.returns-then-first-self
-returns-then-first-self c = grind (arith, characters-plain)
-
-pub returns-then-rest-lt2 : need.returns-then-rest-lt2
-returns-then-rest-lt2 c = let e = characters-hung (c .args .self .now .release) (c .args .self .now .rest .now) (grind arith) (omega arith) in record { steps = (e, e); goes = record { on = λ _. tt } }
-
-pub returns : need.returns
-returns c = grind (arith, characters-pair)
+pub returns-in-None : need.returns-in-None
+returns-in-None c =
+  let e = characters-none (c .args .self .now .release) (c .args .self .now .rest .now) (sym (c .in-None .ensures tt .value)) in
+  record { steps = (e, e); goes = record { on = λ _. tt } }

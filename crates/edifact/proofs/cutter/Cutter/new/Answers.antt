@@ -1,19 +1,33 @@
-use mathlib.Core.Path.{_≡_, refl}
-use Prim.Native.Nat.{_≤_}
+use mathlib.Core.Path.{_≡_, refl, sym, ap, _∙_}
 use native.Mathlib.Omega.{arith}
-use lib.ListN.{length}
-use Rattle.edifact.proofs.Headers.{body-within, marks-lawful, start-cut}
+use Rattle.std.specs.Options.{valueOr}
+use Rattle.edifact.specs.Marks.{usual}
+use Rattle.edifact.proofs.Headers.{header-body, start-cut, start-stopped}
+use Rattle.edifact.proofs.JoinsBack.{joins-back}
+use Rattle.edifact.proofs.Lawfulness.{marks-lawful}
+use Rattle.edifact.proofs.OnlyCut.{only-cut}
 use Rattle.edifact.proofs.cutter.Cutter.new.Needs as need
 
 pub ghost-result-2 : need.ghost-result-2
 ghost-result-2 c =
   let h = c .in-Ok .ensures tt in
-  let short : length (c .in-Ok .head .1 .now) ≤ length (c .args .text .now) = body-within (c .args .text .now) (c .in-Ok .head .1 .now) (h .1) in
-  (marks-lawful (c .args .text .now) (c .in-Ok .head .0) (h .0), (c .leading-breaks-at .ensures .within, (omega arith, (omega arith, tt))))
+  let sum = header-body (c .args .text .now) (c .in-Ok .head .1 .now) (c .in-Ok .head .0) (h .0) (h .1) in
+  (marks-lawful (c .args .text .now) (c .in-Ok .head .0) (h .0), (c .leading-breaks-at .ensures .within, (omega arith, (omega (arith, sum, c .header-length .ensures), tt))))
 
 pub returns : need.returns
 returns c =
   let h = c .in-Ok .ensures tt in
   record {
-    cuts = start-cut (c .args .text .now) (c .in-Ok .head .1 .now) (c .in-Ok .head .0) _ (c .leading-breaks-at .result) (h .0) (h .1) refl (c .leading-breaks-at .ensures .value);
-    marks = λ m e. cc }
+    cuts = start-cut (c .args .text .now) (c .in-Ok .head .1 .now) (c .in-Ok .head .0) (c .header-length .result) (c .leading-breaks-at .result) (h .0) (h .1) (c .header-length .ensures) (c .leading-breaks-at .ensures .value);
+    joins = joins-back (c .args .text .now);
+    only = only-cut (c .args .text .now);
+    marks = sym (ap (λ o. valueOr o usual) (h .0)) }
+
+pub returns-in-Err : need.returns-in-Err
+returns-in-Err c =
+  let h = c .in-Err .ensures tt in
+  record {
+    cuts = start-stopped (c .args .text .now) (c .in-Err .fault) (h .0) (h .1);
+    joins = joins-back (c .args .text .now);
+    only = only-cut (c .args .text .now);
+    marks = c .usual .ensures ∙ sym (ap (λ o. valueOr o usual) (h .0)) }
