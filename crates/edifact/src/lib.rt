@@ -1,10 +1,11 @@
 // EDIFACT text: its marks, and the cutting of it into segments, elements, components and characters.
-pub mod bytes;
 pub mod characters;
 pub mod cutter;
 pub mod fault;
 pub mod header;
 pub mod marks;
-pub mod pieces;
-pub mod scan;
 pub mod segment;
+
+mod bytes;
+mod pieces;
+mod scan;

@@ -1,0 +1,27 @@
+// Runs trials through the public calls. What it prints is held to the stored output.
+mod edges;
+#[cfg(test)]
+mod tests;
+
+use edges::EDGES;
+use listing::plain;
+use std::error::AnyError;
+use std::fs;
+use std::io::Write;
+
+// The worked examples whose last segment has no terminator.
+const UNENDED: [&str; 3] = ["advice-5.edi", "advice-6.edi", "advice-7.edi"];
+
+fn main(rt: LibcRuntime) -> Result<(), AnyError> {
+    let heap = rt.alloc();
+    let mut out = Vec::new(heap);
+    for name in UNENDED {
+        let text = fs::read(&rt, name)?;
+        plain::push_text(heap, &mut out, name, text.as_slice())?;
+    }
+    for edge in &EDGES {
+        plain::push_text(heap, &mut out, edge.what, edge.text)?;
+    }
+    rt.stdout().write_all(out.as_slice())?;
+    Ok(())
+}

@@ -1,0 +1,95 @@
+// Tests over the public calls.
+use crate::edges::EDGES;
+use edifact::cutter::Cutter;
+use edifact::fault::CutFault;
+use edifact::fault::CutFaultDebug;
+use edifact::fault::CutFaultPartialEq;
+use edifact::fault::Place;
+use edifact::marks::DecimalMark;
+use edifact::marks::DecimalMarkDebug;
+use edifact::marks::DecimalMarkPartialEq;
+use listing::command::Word;
+use listing::command::WordDebug;
+use listing::command::WordPartialEq;
+use listing::plain;
+use std::test::*;
+
+// Each edge's listing ends in its line.
+#[test]
+fn edges_end_as_they_should(rt: LibcRuntime) -> Result<(), Fail> {
+    let heap = rt.alloc();
+    for edge in &EDGES {
+        let mut out = Vec::new(heap);
+        plain::push_text(heap, &mut out, edge.what, edge.text)?;
+        let last = edge.last;
+        let line = format!(heap, "\n{last}\n")?;
+        check(out.as_slice().ends_with(line.as_bytes())).note(edge.what)?;
+    }
+    Ok(())
+}
+
+// What a segment tells of its parts.
+#[test]
+fn segment_tells_its_parts() -> Result<(), Fail> {
+    let mut cutter = Cutter::new(b"UNA:+,? '\r\nUNH+1'BGM+A?+B::?:C+'");
+    check_eq(cutter.marks().decimal, DecimalMark::Comma)?;
+    let header = cutter.next()?.ok_or("no segment")?;
+    check_eq(header.position(), 11)?;
+    check_eq(header.len(), 5)?;
+    let segment = cutter.next()?.ok_or("no second segment")?;
+    check_eq(segment.number(), 2)?;
+    check_eq(segment.position(), 17)?;
+    check_eq(segment.tag() == *b"BGM", true)?;
+    check_eq(segment.element_count(), 3)?;
+    let element = segment.element(1).ok_or("no element")?;
+    check_eq(element.component_count(), 3)?;
+    check(segment.component(1, 0).is_none())?;
+    check(segment.component(1, 4).is_none())?;
+    check(segment.component(3, 1).is_none())
+}
+
+// A component's bytes have its release marks, and its characters don't.
+#[test]
+fn component_tells_its_characters() -> Result<(), Fail> {
+    let mut cutter = Cutter::new(b"BGM+A?+B:+?:C'");
+    let segment = cutter.next()?.ok_or("no segment")?;
+    let component = segment.component(1, 1).ok_or("no component")?;
+    check_eq(component.bytes().len(), 4)?;
+    check_eq(component.character_count(), 3)?;
+    check(component.spells(b"A+B"))?;
+    check(!component.spells(b"A?+B"))?;
+    let empty = segment.component(1, 2).ok_or("no empty component")?;
+    check(!empty.is_filled())?;
+    let released = segment.component(2, 1).ok_or("no released component")?;
+    check(released.is_filled())?;
+    check(released.spells(b":C"))
+}
+
+// At its end and at its first fault the cutter stays.
+#[test]
+fn cutter_stays_where_it_stops() -> Result<(), Fail> {
+    let mut ended = Cutter::new(b"");
+    check(ended.next()?.is_none())?;
+    check(ended.next()?.is_none())?;
+    let mut stopped = Cutter::new(b"BGM+A:");
+    let fault = CutFault::UnendedSegment(Place { segment: 1, element: 1, component: 2 });
+    for _ in 0..2 {
+        match stopped.next() {
+            Ok(_) => return Err(Fail::new("no fault")),
+            Err(told) => check_eq(told, fault)?,
+        }
+    }
+    check_eq(fault.refusal().number, 3)
+}
+
+#[test]
+fn words_of_the_command_line() -> Result<(), Fail> {
+    check_eq(Word::of("--plain"), Word::Plain)?;
+    check_eq(Word::of("--help"), Word::Help)?;
+    check_eq(Word::of("--"), Word::EndOfOptions)?;
+    check_eq(Word::of("-"), Word::File)?;
+    check_eq(Word::of("-x"), Word::UnknownOption)?;
+    check_eq(Word::of("--plan"), Word::UnknownOption)?;
+    check_eq(Word::of("advice.edi"), Word::File)?;
+    check_eq(Word::of(""), Word::File)
+}
