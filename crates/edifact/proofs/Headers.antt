@@ -18,27 +18,28 @@ use Rattle.edifact.specs.Marks.{hasHeader, headerLength, marksIn, marksOf, bod
 use Rattle.edifact.specs.Cutting.{stopped, cutFrom, leadingBreaks, cutWith, cut}
 
 pub header-read : (text : List ℕ) (m : Marks) → hasHeader text ≡ true → 9 ≤ length text → getD text 7 0 ≡ 32 →
-  marksIn (getD text 3 0) (getD text 4 0) (getD text 5 0) (getD text 6 0) (getD text 8 0) ≡ Some m →
-  (marksOf text ≡ Some m) × (take (length text - 9) (drop 9 text) ≡ body text)
+    marksIn (getD text 3 0) (getD text 4 0) (getD text 5 0) (getD text 6 0) (getD text 8 0) ≡ Some m →
+    (marksOf text ≡ Some m) × (take (length text - 9) (drop 9 text) ≡ body text)
 header-read text m h l s e =
-  let found : Option Marks = marksIn (getD text 3 0) (getD text 4 0) (getD text 5 0) (getD text 6 0) (getD text 8 0) in
-  let long : (leb 9 (length text) && eqb (getD text 7 0) 32) ≡ true = and-from (leb 9 (length text)) (eqb (getD text 7 0) 32) (le-leb 9 (length text) l) (eq-eqb (getD text 7 0) 32 s) in
-  (ap (λ t. cond t (cond (leb 9 (length text) && eqb (getD text 7 0) 32) found None) (Some usual)) h ∙ ap (λ t. cond t found None) long ∙ e,
-  take-rest text 9 ∙ sym (ap (λ t. drop (cond t 9 0) text) h))
+    let found : Option Marks = marksIn (getD text 3 0) (getD text 4 0) (getD text 5 0) (getD text 6 0) (getD text 8 0) in
+    let long : (leb 9 (length text) && eqb (getD text 7 0) 32) ≡ true = and-from (leb 9 (length text)) (eqb (getD text 7 0) 32) (le-leb 9 (length text) l) (eq-eqb (getD text 7 0) 32 s) in (
+      ap (λ t. cond t (cond (leb 9 (length text) && eqb (getD text 7 0) 32) found None) (Some usual)) h ∙ ap (λ t. cond t found None) long ∙ e,
+      take-rest text 9 ∙ sym (ap (λ t. drop (cond t 9 0) text) h),
+    )
 
 -- a text whose header is lawful has it whole
 pub header-whole : (text : List ℕ) (m : Marks) → marksOf text ≡ Some m → headerLength text ≤ length text
 header-whole text m e =
-  cond-both (hasHeader text) 9 0 (λ n. n ≤ length text)
-  (λ h. long text m (sym (cond-true (hasHeader text) _ _ h) ∙ e))
-  (λ _. omega arith)
+    cond-both (hasHeader text) 9 0 (λ n. n ≤ length text)
+    (λ h. long text m (sym (cond-true (hasHeader text) _ _ h) ∙ e))
+    (λ _. omega arith)
   where
     long : (text : List ℕ) (m : Marks) →
-      cond (leb 9 (length text) && eqb (getD text 7 0) 32) (marksIn (getD text 3 0) (getD text 4 0) (getD text 5 0) (getD text 6 0) (getD text 8 0)) None ≡ Some m → 9 ≤ length text
+        cond (leb 9 (length text) && eqb (getD text 7 0) 32) (marksIn (getD text 3 0) (getD text 4 0) (getD text 5 0) (getD text 6 0) (getD text 8 0)) None ≡ Some m → 9 ≤ length text
     long text m =
-      cond-both (leb 9 (length text) && eqb (getD text 7 0) 32) _ _ (λ o. o ≡ Some m → 9 ≤ length text)
-      (λ h _. leb-true 9 (length text) (and-parts (leb 9 (length text)) _ h .0))
-      (λ _ e. let z : _≡_ {A = ℕ} 0 1 = cc in absurd (omega arith))
+        cond-both (leb 9 (length text) && eqb (getD text 7 0) 32) _ _ (λ o. o ≡ Some m → 9 ≤ length text)
+        (λ h _. leb-true 9 (length text) (and-parts (leb 9 (length text)) _ h .0))
+        (λ _ e. let z : _≡_ {A = ℕ} 0 1 = cc in absurd (omega arith))
 
 -- the header and the body make up the text
 pub header-body : (text b : List ℕ) (m : Marks) → marksOf text ≡ Some m → b ≡ body text → headerLength text + length b ≡ length text
@@ -46,13 +47,13 @@ header-body text b m e eb = omega (arith, header-whole text m e, ap length eb �
 
 -- The cutter's first standing: b is the body, o bytes stand before it and j breaks are skipped.
 pub start-cut : (text b : List ℕ) (m : Marks) (o j : ℕ) → marksOf text ≡ Some m → b ≡ body text → o ≡ headerLength text → j ≡ cond (hasHeader text) (breakRun b) 0 →
-  cutFrom m (0 + 1) (o + j) (drop j b) ≡ cut text
+    cutFrom m (0 + 1) (o + j) (drop j b) ≡ cut text
 start-cut text b m o j e eb eo ej =
-  let breaks : j ≡ leadingBreaks text = ej ∙ ap (λ y. cond (hasHeader text) (breakRun y) 0) eb in
-  ap (λ y. cutFrom m 1 (y + j) (drop j b)) eo
-  ∙ ap (λ y. cutFrom m 1 (headerLength text + y) (drop y b)) breaks
-  ∙ ap (λ y. cutFrom m 1 (headerLength text + leadingBreaks text) (drop (leadingBreaks text) y)) eb
-  ∙ sym (ap (cutWith text) e)
+    let breaks : j ≡ leadingBreaks text = ej ∙ ap (λ y. cond (hasHeader text) (breakRun y) 0) eb in
+    ap (λ y. cutFrom m 1 (y + j) (drop j b)) eo
+    ∙ ap (λ y. cutFrom m 1 (headerLength text + y) (drop y b)) breaks
+    ∙ ap (λ y. cutFrom m 1 (headerLength text + leadingBreaks text) (drop (leadingBreaks text) y)) eb
+    ∙ sym (ap (cutWith text) e)
 
 -- a text with a bad header is stopped at once
 pub start-stopped : (text : List ℕ) (f : CutFault) → marksOf text ≡ None → f ≡ BadHeader → stopped f ≡ cut text

@@ -29,17 +29,17 @@ pushed-numbered m k at p (Ok t) rest h = (refl, h)
 
 pieces-numbered : (m : Marks) (k at : ℕ) (p : List ℕ) (ps : List (List ℕ)) → Numbered k (cutPieces m k at p ps .segments)
 pieces-numbered m k at p [] =
-  cond-both (eqb (length p) 0) ended (pushed m k at p (judged m k false p) ended) (λ c. Numbered k (c .segments))
-  (λ _. tt) (λ _. pushed-numbered m k at p (judged m k false p) ended tt)
+    cond-both (eqb (length p) 0) ended (pushed m k at p (judged m k false p) ended) (λ c. Numbered k (c .segments))
+    (λ _. tt) (λ _. pushed-numbered m k at p (judged m k false p) ended tt)
 pieces-numbered m k at p (q ∷ qs) =
-  pushed-numbered m k at p (judged m k true p) (cutPieces m (k + 1) (at + (length p + 1 + breakRun q)) (drop (breakRun q) q) qs)
-  (pieces-numbered m (k + 1) (at + (length p + 1 + breakRun q)) (drop (breakRun q) q) qs)
+    pushed-numbered m k at p (judged m k true p) (cutPieces m (k + 1) (at + (length p + 1 + breakRun q)) (drop (breakRun q) q) qs)
+    (pieces-numbered m (k + 1) (at + (length p + 1 + breakRun q)) (drop (breakRun q) q) qs)
 
 with-numbered : (text : List ℕ) (o : Option Marks) → Numbered 1 (cutWith text o .segments)
 with-numbered text None = tt
 with-numbered text (Some m) =
-  let ps : List (List ℕ) = split (m .release) (m .terminator) false (drop (leadingBreaks text) (body text)) in
-  pieces-numbered m 1 (headerLength text + leadingBreaks text) (firstOf ps) (othersOf ps)
+    let ps : List (List ℕ) = split (m .release) (m .terminator) false (drop (leadingBreaks text) (body text)) in
+    pieces-numbered m 1 (headerLength text + leadingBreaks text) (firstOf ps) (othersOf ps)
 
 pub cut-numbered : (text : List ℕ) → Numbered 1 (cut text .segments)
 cut-numbered text = with-numbered text (marksOf text)

@@ -14,10 +14,10 @@ use Rattle.edifact.specs.declared.cutter.Cutter.{Cutter}
 use Rattle.edifact.specs.declared.fault.CutFault.{CutFault}
 use Rattle.edifact.specs.declared.marks.Marks.{Marks}
 use Rattle.edifact.specs.declared.pieces.Pieces.{Pieces}
-use Rattle.edifact.specs.declared.segment.Component.{Component}
-use Rattle.edifact.specs.declared.segment.Components.{Components}
-use Rattle.edifact.specs.declared.segment.Element.{Element}
-use Rattle.edifact.specs.declared.segment.Elements.{Elements}
+use Rattle.edifact.specs.declared.component.Component.{Component}
+use Rattle.edifact.specs.declared.component.Components.{Components}
+use Rattle.edifact.specs.declared.element.Element.{Element}
+use Rattle.edifact.specs.declared.element.Elements.{Elements}
 use Rattle.edifact.specs.declared.segment.Segment.{Segment}
 use Rattle.edifact.specs.Split.{split, characters}
 use Rattle.edifact.specs.Laws.{IsCut}

@@ -48,13 +48,13 @@ pushed m k at p (Ok t) rest = push (record { marks = m; number = k; first = at; 
 abbrev pub cutPieces : Marks → (k at : ℕ) → (p : List ℕ) (ps : List (List ℕ)) → Cutting
 cutPieces m k at p [] = cond (eqb (length p) 0) ended (pushed m k at p (judged m k false p) ended)
 cutPieces m k at p (q ∷ qs) =
-  pushed m k at p (judged m k true p) (cutPieces m (k + 1) (at + (length p + 1 + breakRun q)) (drop (breakRun q) q) qs)
+    pushed m k at p (judged m k true p) (cutPieces m (k + 1) (at + (length p + 1 + breakRun q)) (drop (breakRun q) q) qs)
 
 -- bytes that begin at `at`, with segment k
 abbrev pub cutFrom : Marks → (k at : ℕ) → List ℕ → Cutting
 cutFrom m k at bs =
-  let ps : List (List ℕ) = split (m .release) (m .terminator) false bs in
-  cutPieces m k at (firstOf ps) (othersOf ps)
+    let ps : List (List ℕ) = split (m .release) (m .terminator) false bs in
+    cutPieces m k at (firstOf ps) (othersOf ps)
 
 -- how many CR and LF are skipped in front of the first segment: only behind a header
 abbrev pub leadingBreaks : List ℕ → ℕ

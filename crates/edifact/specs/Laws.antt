@@ -72,8 +72,8 @@ joined m (w ∷ ws) = segmentBytes m (w .elements) ++ m .terminator ∷ (w .brea
 abbrev pub cutsOf : Marks → (k at : ℕ) → List Written → List Cut
 cutsOf m k at [] = []
 cutsOf m k at (w ∷ ws) =
-  record { marks = m; number = k; first = at; bytes = segmentBytes m (w .elements); tag = w .tag }
-  ∷ cutsOf m (k + 1) (at + (length (segmentBytes m (w .elements)) + 1 + length (w .breaks))) ws
+    record { marks = m; number = k; first = at; bytes = segmentBytes m (w .elements); tag = w .tag }
+    ∷ cutsOf m (k + 1) (at + (length (segmentBytes m (w .elements)) + 1 + length (w .breaks))) ws
 
 -- the text is its header, CR and LF behind that, and the segments ws joined
 pub record Composed (text : List ℕ) (m : Marks) (leading : List ℕ) (ws : List Written) : Type 0 where
@@ -90,15 +90,15 @@ cutsAs text m leading ws = cutsOf m 1 (headerLength text + length leading) ws
 -- joining the parts of a text that cuts throughout gives its bytes back, but for the skipped CR and LF
 abbrev pub JoinsBack : List ℕ → Type 0
 JoinsBack text =
-  cut text .fault ≡ None →
-  (m : Marks) × (leading : List ℕ) × (ws : List Written) × (Composed text m leading ws × (cut text .segments ≡ cutsAs text m leading ws))
+    cut text .fault ≡ None →
+    (m : Marks) × (leading : List ℕ) × (ws : List Written) × (Composed text m leading ws × (cut text .segments ≡ cutsAs text m leading ws))
 
 -- the cut is the only one that does: whatever parts a text is put together from, it is cut into these
 abbrev pub OnlyCut : List ℕ → Type 0
 OnlyCut text =
-  (m : Marks) (leading : List ℕ) (ws : List Written) → Composed text m leading ws →
-  (cut text ≡ record { segments = cutsAs text m leading ws; fault = None })
-  × (map (λ s. partsOf (s .marks) (s .bytes)) (cut text .segments) ≡ map (λ w. w .elements) ws)
+    (m : Marks) (leading : List ℕ) (ws : List Written) → Composed text m leading ws →
+    (cut text ≡ record { segments = cutsAs text m leading ws; fault = None })
+    × (map (λ s. partsOf (s .marks) (s .bytes)) (cut text .segments) ≡ map (λ w. w .elements) ws)
 
 -- what is true of every segment that is cut: its parts join to its bytes, each component is whole, and element 0 gives its tag
 pub record IsCut (s : Cut) : Type 0 where

@@ -1,11 +1,11 @@
 -- The five marks of a text, and the header that may carry them.
-use mathlib.Core.Path.{_≡_}
-use mathlib.Core.Bool.{Bool, true, false, cond, not, _&&_, _||_}
-use mathlib.Core.List.{List, [], _∷_}
+use mathlib.Core.Bool.{Bool, cond, not, _&&_}
+use mathlib.Core.List.{List}
 use Prim.Native.Nat.{ℕ}
 use lib.Chars.{codes}
 use lib.Dec.{leb, eqb}
 use lib.ListN.{length, getD, take, drop}
+use Rattle.std.specs.shelf.Text.{sameBytes}
 use Rattle.std.specs.declared.option.Option.{Option}
 use Rattle.std.specs.declared.option.Option.the-variants.{Some, None}
 use Rattle.edifact.specs.declared.marks.Marks.{Marks}
@@ -33,12 +33,12 @@ differs b w x y z = not (eqb b w) && not (eqb b x) && not (eqb b y) && not (eqb 
 -- the five marks may be marks, and differ
 abbrev pub lawful : Marks → Bool
 lawful m =
-  let d : ℕ = decimalByte (m .decimal) in
-  (markable (m .component) && markable (m .element) && markable (m .release) && markable (m .terminator))
-  && (differs (m .component) (m .element) d (m .release) (m .terminator)
-  && (differs (m .element) (m .component) d (m .release) (m .terminator)
-  && (differs (m .release) (m .component) (m .element) d (m .terminator)
-  && differs (m .terminator) (m .component) (m .element) d (m .release))))
+    let d : ℕ = decimalByte (m .decimal) in
+    (markable (m .component) && markable (m .element) && markable (m .release) && markable (m .terminator))
+    && (differs (m .component) (m .element) d (m .release) (m .terminator)
+    && (differs (m .element) (m .component) d (m .release) (m .terminator)
+    && (differs (m .release) (m .component) (m .element) d (m .terminator)
+    && differs (m .terminator) (m .component) (m .element) d (m .release))))
 
 -- the marks of a text without a header
 abbrev pub usual : Marks
@@ -55,23 +55,16 @@ withDecimal c e r t (Some d) = ifLawful (record { component = c; element = e; de
 abbrev pub marksIn : (component element decimal release terminator : ℕ) → Option Marks
 marksIn c e d r t = withDecimal c e r t (decimalOf d)
 
--- whether two lists of bytes are the same
-abbrev pub same : List ℕ → List ℕ → Bool
-same [] [] = true
-same [] (y ∷ ys) = false
-same (x ∷ xs) [] = false
-same (x ∷ xs) (y ∷ ys) = eqb x y && same xs ys
-
 -- whether a text begins with the three bytes of a header
 abbrev pub hasHeader : List ℕ → Bool
-hasHeader text = same (take 3 text) (codes "UNA")
+hasHeader text = sameBytes (take 3 text) (codes "UNA")
 
 -- the marks of a text, or none where its header is bad: under nine bytes, no space before the terminator, or unlawful marks
 abbrev pub marksOf : List ℕ → Option Marks
 marksOf text =
-  cond (hasHeader text)
-  (cond (leb 9 (length text) && eqb (getD text 7 0) 32) (marksIn (getD text 3 0) (getD text 4 0) (getD text 5 0) (getD text 6 0) (getD text 8 0)) None)
-  (Some usual)
+    cond (hasHeader text)
+    (cond (leb 9 (length text) && eqb (getD text 7 0) 32) (marksIn (getD text 3 0) (getD text 4 0) (getD text 5 0) (getD text 6 0) (getD text 8 0)) None)
+    (Some usual)
 
 -- how many bytes the header has
 abbrev pub headerLength : List ℕ → ℕ

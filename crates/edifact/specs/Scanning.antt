@@ -24,7 +24,8 @@ abbrev pub after : Marks → Standing → ℕ → Standing
 after m s b = record {
   protected = releases (m .release) (s .protected) b;
   element = cond (divides (m .release) (m .element) (s .protected) b) (s .element + 1) (s .element);
-  component = cond (divides (m .release) (m .element) (s .protected) b) 1 (cond (divides (m .release) (m .component) (s .protected) b) (s .component + 1) (s .component)) }
+  component = cond (divides (m .release) (m .element) (s .protected) b) 1 (cond (divides (m .release) (m .component) (s .protected) b) (s .component + 1) (s .component));
+}
 
 abbrev pub start : Standing
 start = record { protected = false; element = 0; component = 1 }
@@ -36,22 +37,22 @@ placed k s = record { segment = k; element = s .element; component = s .componen
 -- the character with which bytes begin
 abbrev pub characterIn : (release : ℕ) → List ℕ → Option FoundCharacter
 characterIn release bs =
-  cond (eqb (length bs) 0) None
-  (cond (eqb (getD bs 0 0) release)
+    cond (eqb (length bs) 0) None
+    (cond (eqb (getD bs 0 0) release)
     (cond (ltb (length bs) 2) None (Some (record { character = getD bs 1 0; length = 2 })))
     (Some (record { character = getD bs 0 0; length = 1 })))
 
 -- the length of segment k, whose bytes are p, or the fault that the cutter meets in it
 abbrev pub bounded : Marks → ℕ → (ended : Bool) → List ℕ → Result ℕ CutFault
 bounded m k ended p =
-  cond (holdsForbidden p) (Err (ForbiddenByte (placeBehind m k (take (allowedRun p) p))))
-  (cond ended (Ok (length p)) (Err (UnendedSegment (placeBehind m k p))))
+    cond (holdsForbidden p) (Err (ForbiddenByte (placeBehind m k (take (allowedRun p) p))))
+    (cond ended (Ok (length p)) (Err (UnendedSegment (placeBehind m k p))))
 
 -- the length of segment k, with which bs begins
 abbrev pub endIn : Marks → ℕ → List ℕ → Result ℕ CutFault
 endIn m k bs =
-  let n : ℕ = reach (m .release) (m .terminator) false bs in
-  bounded m k (ltb n (length bs)) (take n bs)
+    let n : ℕ = reach (m .release) (m .terminator) false bs in
+    bounded m k (ltb n (length bs)) (take n bs)
 
 abbrev pub withLength : ℕ → Result (List ℕ) CutFault → Result Found CutFault
 withLength n (Ok t) = Ok (record { length = n; tag = t })
@@ -60,5 +61,5 @@ withLength n (Err f) = Err f
 -- length and tag of segment k, with which bs begins
 abbrev pub segmentIn : Marks → ℕ → List ℕ → Result Found CutFault
 segmentIn m k bs =
-  let n : ℕ = reach (m .release) (m .terminator) false bs in
-  withLength n (judged m k (ltb n (length bs)) (take n bs))
+    let n : ℕ = reach (m .release) (m .terminator) false bs in
+    withLength n (judged m k (ltb n (length bs)) (take n bs))

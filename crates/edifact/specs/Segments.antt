@@ -56,8 +56,8 @@ tagIn (a ∷ b ∷ c ∷ d ∷ ds) = None
 -- the tag of a segment: the characters of element 0, which has one component
 abbrev pub tagOf : Marks → List ℕ → Option (List ℕ)
 tagOf m bs =
-  let element : List ℕ = firstOf (elements m bs) in
-  cond (eqb (length (components m element)) 1) (tagIn (characters (m .release) false element)) None
+    let element : List ℕ = firstOf (elements m bs) in
+    cond (eqb (length (components m element)) 1) (tagIn (characters (m .release) false element)) None
 
 -- whether a segment's bytes hold one that isn't allowed
 abbrev pub holdsForbidden : List ℕ → Bool
@@ -70,8 +70,8 @@ tagged k (Some t) = Ok t
 -- the tag of segment k, whose bytes are bs, or why it is ill-cut: the first forbidden byte, else that no terminator ends it, else its tag
 abbrev pub judged : Marks → ℕ → (ended : Bool) → List ℕ → Result (List ℕ) CutFault
 judged m k ended bs =
-  cond (holdsForbidden bs) (Err (ForbiddenByte (placeBehind m k (take (allowedRun bs) bs))))
-  (cond ended (tagged k (tagOf m bs)) (Err (UnendedSegment (placeBehind m k bs))))
+    cond (holdsForbidden bs) (Err (ForbiddenByte (placeBehind m k (take (allowedRun bs) bs))))
+    (cond ended (tagged k (tagOf m bs)) (Err (UnendedSegment (placeBehind m k bs))))
 
 abbrev pub componentIn : Marks → ℕ → Option (List ℕ) → Option (List ℕ)
 componentIn m c None = None

@@ -22,14 +22,14 @@ onto b (p ∷ ps) = (b ∷ p) ∷ ps
 abbrev pub split : (release mark : ℕ) (protected : Bool) → List ℕ → List (List ℕ)
 split release mark protected [] = [] ∷ []
 split release mark protected (b ∷ bs) =
-  let rest : List (List ℕ) = split release mark (releases release protected b) bs in
-  cond (divides release mark protected b) ([] ∷ rest) (onto b rest)
+    let rest : List (List ℕ) = split release mark (releases release protected b) bs in
+    cond (divides release mark protected b) ([] ∷ rest) (onto b rest)
 
 -- the length of the first piece
 abbrev pub reach : (release mark : ℕ) (protected : Bool) → List ℕ → ℕ
 reach release mark protected [] = 0
 reach release mark protected (b ∷ bs) =
-  cond (divides release mark protected b) 0 (suc (reach release mark (releases release protected b) bs))
+    cond (divides release mark protected b) 0 (suc (reach release mark (releases release protected b) bs))
 
 -- the pieces with the mark between them
 abbrev pub join : (mark : ℕ) → List (List ℕ) → List ℕ
@@ -41,5 +41,5 @@ join mark (p ∷ q ∷ ps) = p ++ mark ∷ join mark (q ∷ ps)
 abbrev pub characters : (release : ℕ) (protected : Bool) → List ℕ → List ℕ
 characters release protected [] = []
 characters release protected (b ∷ bs) =
-  let rest : List ℕ = characters release (releases release protected b) bs in
-  cond (releases release protected b) rest (b ∷ rest)
+    let rest : List ℕ = characters release (releases release protected b) bs in
+    cond (releases release protected b) rest (b ∷ rest)

@@ -4,7 +4,7 @@ ghost use mathlib.Core.Bool.{false};
 ghost use Prim.Native.Nat.{_≤_};
 ghost use lib.ListN.{length as size};
 ghost use Rattle.std.specs.Options.{Cases};
-ghost use Rattle.edifact.specs.Marks.{same};
+ghost use Rattle.std.specs.shelf.Text.{sameBytes};
 ghost use Rattle.edifact.specs.Split.{characters as charactersIn};
 ghost use Rattle.edifact.specs.Scanning.{characterIn};
 ghost use Rattle.edifact.specs.Cursors.{Takes, charactersLeft};
@@ -26,12 +26,18 @@ fn first_character(bytes: &[u8], release: u8) -> Option<FoundCharacter>
         return None;
     }
     if bytes[0] != release {
-        return Some(FoundCharacter { character: bytes[0], length: 1 });
+        return Some(FoundCharacter {
+            character: bytes[0],
+            length: 1,
+        });
     }
     if bytes.len() < 2 {
         return None;
     }
-    Some(FoundCharacter { character: bytes[1], length: 2 })
+    Some(FoundCharacter {
+        character: bytes[1],
+        length: 2,
+    })
 }
 
 // The characters that are still to come.
@@ -45,7 +51,10 @@ impl<'t> Characters<'t> {
     pub fn of(bytes: &'t [u8], release: u8) -> Characters<'t>
         ensures { λ r. ⌜ charactersLeft r ≡ charactersIn release false (now (bytes .entry)) ⌝ }
     {
-        Characters { rest: bytes, release }
+        Characters {
+            rest: bytes,
+            release,
+        }
     }
 }
 
@@ -72,7 +81,7 @@ pub impl<'t> Iterator for Characters<'t> as CharactersIterator {
 }
 
 // How many characters `bytes` has.
-pub fn character_count(bytes: &[u8], release: u8) -> usize
+pub(crate) fn character_count(bytes: &[u8], release: u8) -> usize
     ensures { λ r. ⌜ r ≡ size (charactersIn release false (now (bytes .entry))) ⌝ }
 {
     let mut count = 0;
@@ -87,8 +96,8 @@ pub fn character_count(bytes: &[u8], release: u8) -> usize
 }
 
 // Whether the characters of `bytes` are those of `plain`.
-pub fn same_characters(bytes: &[u8], release: u8, plain: &[u8]) -> bool
-    ensures { λ r. ⌜ r ≡ same (charactersIn release false (now (bytes .entry))) (now (plain .entry)) ⌝ }
+pub(crate) fn same_characters(bytes: &[u8], release: u8, plain: &[u8]) -> bool
+    ensures { λ r. ⌜ r ≡ sameBytes (charactersIn release false (now (bytes .entry))) (now (plain .entry)) ⌝ }
 {
     let mut characters = Characters::of(bytes, release);
     for p in plain {

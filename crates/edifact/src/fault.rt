@@ -26,15 +26,35 @@ pub struct Refusal {
     pub place: Place,
 }
 
+impl Place {
+    // The place of a fault that tells at most a segment.
+    fn of_segment(segment: usize) -> Place
+        ensures { λ r. ⌜ r ≡ record { segment = segment; element = 0; component = 0 } ⌝ }
+    {
+        Place {
+            segment,
+            element: 0,
+            component: 0,
+        }
+    }
+}
+
 impl CutFault {
+    // Its number among the refusals, and the places it tells.
     pub fn refusal(self) -> Refusal
         ensures { λ r. ⌜ r ≡ refusalOf self ⌝ }
     {
         match self {
-            CutFault::BadHeader => Refusal { number: 1, place: Place { segment: 0, element: 0, component: 0 } },
+            CutFault::BadHeader => Refusal {
+                number: 1,
+                place: Place::of_segment(0),
+            },
             CutFault::ForbiddenByte(place) => Refusal { number: 2, place },
             CutFault::UnendedSegment(place) => Refusal { number: 3, place },
-            CutFault::BadTag(segment) => Refusal { number: 4, place: Place { segment, element: 0, component: 0 } },
+            CutFault::BadTag(segment) => Refusal {
+                number: 4,
+                place: Place::of_segment(segment),
+            },
         }
     }
 }

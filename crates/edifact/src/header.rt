@@ -24,7 +24,18 @@ pub fn read_header(text: &[u8]) -> Result<(Marks, &[u8]), CutFault>
         return Ok((Marks::usual(), text));
     }
     match text {
-        [b'U', b'N', b'A', component, element, decimal, release, b' ', terminator, rest @ ..] => {
+        [
+            b'U',
+            b'N',
+            b'A',
+            component,
+            element,
+            decimal,
+            release,
+            b' ',
+            terminator,
+            rest @ ..,
+        ] => {
             match Marks::from_bytes(*component, *element, *decimal, *release, *terminator) {
                 Some(marks) => Ok((marks, rest)),
                 None => Err(CutFault::BadHeader),

@@ -1,11 +1,12 @@
 // EDIFACT text: its marks, and the cutting of it into segments, elements, components and characters.
+mod bytes;
 pub mod characters;
+pub mod component;
 pub mod cutter;
+pub mod element;
 pub mod fault;
 pub mod header;
 pub mod marks;
-pub mod segment;
-
-mod bytes;
 mod pieces;
 mod scan;
+pub mod segment;

@@ -55,32 +55,51 @@ impl Marks {
     pub fn usual() -> Marks
         ensures { λ r. ⌜ r ≡ usual ⌝ }
     {
-        Marks { component: b':', element: b'+', decimal: DecimalMark::Point, release: b'?', terminator: b'\'' }
+        Marks {
+            component: b':',
+            element: b'+',
+            decimal: DecimalMark::Point,
+            release: b'?',
+            terminator: b'\'',
+        }
     }
 
     // Whether these may be the marks of a text.
     pub fn are_lawful(&self) -> bool
         ensures { λ r. ⌜ r ≡ lawful (now (self .entry)) ⌝ }
     {
+        let (c, e, r, t) = (self.component, self.element, self.release, self.terminator);
         let d = self.decimal.byte();
-        (is_markable(self.component)
-            && is_markable(self.element)
-            && is_markable(self.release)
-            && is_markable(self.terminator))
-            && (is_other(self.component, self.element, d, self.release, self.terminator)
-                && (is_other(self.element, self.component, d, self.release, self.terminator)
-                    && (is_other(self.release, self.component, self.element, d, self.terminator)
-                        && is_other(self.terminator, self.component, self.element, d, self.release))))
+        (is_markable(c) && is_markable(e) && is_markable(r) && is_markable(t))
+            && (is_other(c, e, d, r, t)
+                && (is_other(e, c, d, r, t)
+                    && (is_other(r, c, e, d, t) && is_other(t, c, e, d, r))))
     }
 
     // The marks that five bytes are, if they are lawful.
-    pub fn from_bytes(component: u8, element: u8, decimal: u8, release: u8, terminator: u8) -> Option<Marks>
+    pub fn from_bytes(
+        component: u8,
+        element: u8,
+        decimal: u8,
+        release: u8,
+        terminator: u8,
+    ) -> Option<Marks>
         ensures { λ r. ⌜ r ≡ marksIn component element decimal release terminator ⌝ }
     {
         let Some(decimal) = DecimalMark::from_byte(decimal) else {
             return None;
         };
-        let marks = Marks { component, element, decimal, release, terminator };
-        if marks.are_lawful() { Some(marks) } else { None }
+        let marks = Marks {
+            component,
+            element,
+            decimal,
+            release,
+            terminator,
+        };
+        if marks.are_lawful() {
+            Some(marks)
+        } else {
+            None
+        }
     }
 }

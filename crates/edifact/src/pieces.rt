@@ -42,7 +42,12 @@ impl<'t> Pieces<'t> {
     pub fn of(bytes: &'t [u8], release: u8, mark: u8) -> Pieces<'t>
         ensures { λ r. ⌜ piecesLeft r ≡ split release mark false (now (bytes .entry)) ⌝ }
     {
-        Pieces { rest: bytes, release, mark, more: true }
+        Pieces {
+            rest: bytes,
+            release,
+            mark,
+            more: true,
+        }
     }
 }
 

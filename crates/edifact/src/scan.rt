@@ -42,11 +42,19 @@ impl Standing {
     {
         let protected = is_release(b, marks.release, self.protected);
         if is_mark(b, marks.release, marks.element, self.protected) {
-            Standing { protected, element: self.element + 1, component: 1 }
+            Standing {
+                protected,
+                element: self.element + 1,
+                component: 1,
+            }
         } else if is_mark(b, marks.release, marks.component, self.protected) {
-            Standing { protected, element: self.element, component: self.component + 1 }
+            Standing {
+                protected,
+                component: self.component + 1,
+                ..self
+            }
         } else {
-            Standing { protected, element: self.element, component: self.component }
+            Standing { protected, ..self }
         }
     }
 
@@ -54,7 +62,11 @@ impl Standing {
     fn place(self, segment: usize) -> Place
         ensures { λ r. ⌜ r ≡ placed segment self ⌝ }
     {
-        Place { segment, element: self.element, component: self.component }
+        Place {
+            segment,
+            element: self.element,
+            component: self.component,
+        }
     }
 }
 
@@ -64,7 +76,11 @@ pub fn segment_end(text: &[u8], marks: Marks, number: usize) -> Result<usize, Cu
     ensures within { λ r. ⌜ made r (λ n. n < size (now (text .entry))) ⌝ }
 {
     let mut i = 0;
-    let mut standing = Standing { protected: false, element: 0, component: 1 };
+    let mut standing = Standing {
+        protected: false,
+        element: 0,
+        component: 1,
+    };
     while i < text.len() {
         let b = text[i];
         if is_mark(b, marks.release, marks.terminator, standing.protected) {
@@ -109,7 +125,11 @@ fn tag_in(bytes: &[u8], release: u8) -> Option<[u8; 3]>
     if let Some(_) = characters.next() {
         return None;
     }
-    if is_tag(a, b, c) { Some([a, b, c]) } else { None }
+    if is_tag(a, b, c) {
+        Some([a, b, c])
+    } else {
+        None
+    }
 }
 
 // The tag of a segment.
@@ -118,7 +138,11 @@ pub fn tag_of(bytes: &[u8], marks: Marks) -> Option<[u8; 3]>
 {
     let n = first_piece(bytes, marks.release, marks.element);
     let (head, _) = bytes.split_at(n);
-    if first_piece(head, marks.release, marks.component) < n { None } else { tag_in(head, marks.release) }
+    if first_piece(head, marks.release, marks.component) < n {
+        None
+    } else {
+        tag_in(head, marks.release)
+    }
 }
 
 // How many CR and LF `text` begins with.

@@ -18,18 +18,18 @@ part-lines line m n (b ∷ bs) = ap (λ x. line n (part m b) ++ x) (part-lines l
 
 -- one thing more
 pub lines-more : {X : Type 0} (line : ℕ → X → List ℕ) (n : ℕ) (out next all : List ℕ) (x : X) (before after : List X) → before ≡ x ∷ after →
-  out ++ lines line n before ≡ all → next ≡ out ++ line n x → next ++ lines line (n + 1) after ≡ all
+    out ++ lines line n before ≡ all → next ≡ out ++ line n x → next ++ lines line (n + 1) after ≡ all
 lines-more line n out next all x before after eb inv en =
-  ap (λ y. y ++ lines line (n + 1) after) en
-  ∙ append-assoc out (line n x) (lines line (n + 1) after)
-  ∙ sym (ap (λ y. out ++ lines line n y) eb) ∙ inv
+    ap (λ y. y ++ lines line (n + 1) after) en
+    ∙ append-assoc out (line n x) (lines line (n + 1) after)
+    ∙ sym (ap (λ y. out ++ lines line n y) eb) ∙ inv
 
 -- nothing more: all parts are written
 pub parts-written : (line : ℕ → Part → List ℕ) (m : Marks) (n k : ℕ) (out was : List ℕ) (left start : List Part) (bs : List (List ℕ)) → left ≡ [] →
-  out ++ lines line n left ≡ was ++ lines line k start → start ≡ map (part m) bs → out ≡ was ++ lines (λ i b. line i (part m b)) k bs
+    out ++ lines line n left ≡ was ++ lines line k start → start ≡ map (part m) bs → out ≡ was ++ lines (λ i b. line i (part m b)) k bs
 parts-written line m n k out was left start bs el inv es =
-  sym (ap (λ y. out ++ lines line n y) el ∙ append-nil out) ∙ inv
-  ∙ ap (λ y. was ++ lines line k y) es ∙ ap (λ y. was ++ y) (part-lines line m k bs)
+    sym (ap (λ y. out ++ lines line n y) el ∙ append-nil out) ∙ inv
+    ∙ ap (λ y. was ++ lines line k y) es ∙ ap (λ y. was ++ y) (part-lines line m k bs)
 
 pub length-parts : (m : Marks) (bs : List (List ℕ)) (left : List Part) → left ≡ map (part m) bs → length left ≡ length bs
 length-parts m [] left e = ap length e

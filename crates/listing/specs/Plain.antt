@@ -20,7 +20,7 @@ field n = 9 ∷ decimal n
 
 -- component c of element e, with its bytes as in the text
 abbrev pub componentLine : (e c : ℕ) → List ℕ → List ℕ
-componentLine e c bs = codes "component" ++ (field e ++ (field c ++ (9 ∷ (bs ++ 10 ∷ []))))
+componentLine e c bs = (codes "component" ++ (field e ++ (field c ++ 9 ∷ []))) ++ (bs ++ 10 ∷ [])
 
 -- the lines of things that are numbered from n on
 abbrev pub lines : {X : Type 0} → (ℕ → X → List ℕ) → (n : ℕ) → List X → List ℕ
@@ -32,7 +32,7 @@ abbrev pub elementLines : Marks → (e : ℕ) → (bs : List ℕ) → List ℕ
 elementLines m e bs = lines (componentLine e) 1 (components m bs)
 
 abbrev pub segmentLine : Cut → List ℕ
-segmentLine s = codes "segment" ++ (field (s .number) ++ (9 ∷ (s .tag ++ (field (s .first) ++ (field (length (s .bytes)) ++ 10 ∷ [])))))
+segmentLine s = (codes "segment" ++ (field (s .number) ++ 9 ∷ [])) ++ (s .tag ++ (field (s .first) ++ (field (length (s .bytes)) ++ 10 ∷ [])))
 
 -- a segment and its components: those of the tag are left out
 abbrev pub segmentLines : Cut → List ℕ
@@ -51,7 +51,7 @@ abbrev pub cutLines : Cutting → List ℕ
 cutLines c = lines (λ _ s. segmentLines s) 1 (c .segments) ++ lastLine (length (c .segments)) (c .fault)
 
 abbrev pub fileLine : List ℕ → List ℕ
-fileLine name = codes "file" ++ (9 ∷ (name ++ 10 ∷ []))
+fileLine name = (codes "file" ++ 9 ∷ []) ++ (name ++ 10 ∷ [])
 
 -- the listing of a text under a name
 abbrev pub listing : (name text : List ℕ) → List ℕ

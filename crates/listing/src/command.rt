@@ -1,4 +1,10 @@
 // The command line.
+ghost use mathlib.Core.Path.{_≡_};
+ghost use mathlib.Core.Bool.{_&&_};
+ghost use lib.Dec.{eqb, ltb};
+ghost use lib.ListN.{length, getD};
+ghost use Rattle.std.specs.shelf.Text.{sameBytes};
+ghost use Rattle.listing.specs.Command.{wordOf};
 use std::alloc::AllocError;
 use std::alloc::Global;
 
@@ -21,17 +27,37 @@ pub enum Word {
 
 impl Word {
     // A lone `-` is a file: the standard input.
-    pub fn of(word: &str) -> Word {
-        match word {
-            "--plain" => Word::Plain,
-            "--help" => Word::Help,
-            "--" => Word::EndOfOptions,
-            "-" => Word::File,
-            _ => {
-                if word.starts_with("-") { Word::UnknownOption } else { Word::File }
-            }
+    pub fn of(word: &str) -> Word
+        ensures { λ r. ⌜ r ≡ wordOf (now (word .entry)) ⌝ }
+    {
+        if is_word(word, "--plain") {
+            Word::Plain
+        } else if is_word(word, "--help") {
+            Word::Help
+        } else if is_word(word, "--") {
+            Word::EndOfOptions
+        } else if is_word(word, "-") {
+            Word::File
+        } else if is_dashed(word.as_bytes()) {
+            Word::UnknownOption
+        } else {
+            Word::File
         }
     }
+}
+
+// Whether two words are the same.
+fn is_word(word: &str, other: &str) -> bool
+    ensures { λ r. ⌜ r ≡ sameBytes (now (word .entry)) (now (other .entry)) ⌝ }
+{
+    word == other
+}
+
+// Whether a word begins with a minus.
+fn is_dashed(word: &[u8]) -> bool
+    ensures { λ r. ⌜ r ≡ (ltb 0 (length (now (word .entry))) && eqb (getD (now (word .entry)) 0 0) 45) ⌝ }
+{
+    word.len() > 0 && word[0] == b'-'
 }
 
 // What the program is asked for.
@@ -78,5 +104,9 @@ pub fn parse(heap: Global, words: Vec<String>) -> Result<Request, AllocError> {
             }
         }
     }
-    if command { Ok(Request::Cut(format, files)) } else { Ok(Request::Nothing) }
+    if command {
+        Ok(Request::Cut(format, files))
+    } else {
+        Ok(Request::Nothing)
+    }
 }

@@ -1,12 +1,15 @@
 // The listing for a person: a line for each segment, and one for each element with its components' characters.
+ghost use mathlib.Core.Path.{_≡_};
+ghost use Rattle.std.specs.Vec.{made};
+ghost use Rattle.edifact.specs.Cutting.{cut};
 use edifact::characters::CharactersIterator;
+use edifact::component::Component;
+use edifact::component::ComponentsIterator;
 use edifact::cutter::Cutter;
+use edifact::element::Element;
+use edifact::element::ElementsIterator;
 use edifact::fault::CutFault;
 use edifact::fault::Place;
-use edifact::segment::Component;
-use edifact::segment::ComponentsIterator;
-use edifact::segment::Element;
-use edifact::segment::ElementsIterator;
 use edifact::segment::Segment;
 use std::alloc::AllocError;
 use std::alloc::Global;
@@ -57,25 +60,49 @@ fn at_place(heap: Global, place: Place, what: &str) -> Result<String, AllocError
     let segment = place.segment;
     let element = place.element;
     let component = place.component;
-    format!(heap, "segment {segment}, element {element}, component {component}: {what}")
+    format!(
+        heap,
+        "segment {segment}, element {element}, component {component}: {what}"
+    )
 }
 
 // Why a text isn't cut throughout, in words.
 pub fn describe(heap: Global, fault: CutFault) -> Result<String, AllocError> {
     match fault {
         CutFault::BadHeader => {
-            String::from_str(heap, "the header UNA has under nine bytes, no space before the terminator, or unlawful marks (refusal 1)")
+            String::from_str(
+                heap,
+                "the header UNA has under nine bytes, no space before the terminator, or unlawful marks (refusal 1)",
+            )
         }
-        CutFault::ForbiddenByte(place) => at_place(heap, place, "a byte that isn't allowed (refusal 2)"),
-        CutFault::UnendedSegment(place) => at_place(heap, place, "the text ends before the segment does (refusal 3)"),
+        CutFault::ForbiddenByte(place) => at_place(
+            heap,
+            place,
+            "a byte that isn't allowed (refusal 2)",
+        ),
+        CutFault::UnendedSegment(place) => at_place(
+            heap,
+            place,
+            "the text ends before the segment does (refusal 3)",
+        ),
         CutFault::BadTag(segment) => {
-            format!(heap, "segment {segment}: the tag isn't three letters A to Z, or is UNA (refusal 4)")
+            format!(
+                heap,
+                "segment {segment}: the tag isn't three letters A to Z, or is UNA (refusal 4)"
+            )
         }
     }
 }
 
 // The listing of a text under a name; answers the fault at which it is stopped.
-pub fn push_text(heap: Global, out: &mut Vec<u8>, name: &str, text: &[u8]) -> Result<Option<CutFault>, AllocError> {
+pub fn push_text(
+    heap: Global,
+    out: &mut Vec<u8>,
+    name: &str,
+    text: &[u8],
+) -> Result<Option<CutFault>, AllocError>
+    ensures { λ r. ⌜ made r (λ f. f ≡ cut (now (text .entry)) .fault) ⌝ }
+{
     out.extend_from_slice(name.as_bytes())?;
     out.push(b'\n')?;
     let mut cutter = Cutter::new(text);

@@ -9,28 +9,46 @@ ghost use Rattle.edifact.specs.Cutting.{cut};
 ghost use Rattle.edifact.specs.Faults.{refusalOf};
 ghost use Rattle.edifact.specs.Segments.{elements as elementsIn, othersOf};
 ghost use Rattle.listing.specs.Plain.{field, componentLine, elementLines, lines, segmentLine, segmentLines, refusalLine, fileLine, listing};
+use edifact::component::ComponentsIterator;
 use edifact::cutter::Cutter;
+use edifact::element::Element;
+use edifact::element::ElementsIterator;
 use edifact::fault::CutFault;
-use edifact::segment::ComponentsIterator;
-use edifact::segment::Element;
-use edifact::segment::ElementsIterator;
 use edifact::segment::Segment;
 use std::alloc::AllocError;
 use std::alloc::Global;
 
-// The line of component `c` of element `e`.
-pub fn push_component(heap: Global, out: &mut Vec<u8>, e: usize, c: usize, bytes: &[u8]) -> Result<(), AllocError>
-    ensures { λ r. ⌜ made r (λ _. vec-items (now (out .exit)) ≡ vec-items (now (out .entry)) ++ componentLine e c (now (bytes .entry))) ⌝ }
+// Bytes between two texts.
+fn push_line(out: &mut Vec<u8>, head: &str, bytes: &[u8], tail: &str) -> Result<(), AllocError>
+    ensures { λ r. ⌜ made r (λ _. vec-items (now (out .exit)) ≡ vec-items (now (out .entry)) ++ (now (head .entry) ++ (now (bytes .entry) ++ now (tail .entry)))) ⌝ }
 {
-    let head = format!(heap, "component\t{e}\t{c}\t")?;
     out.extend_from_slice(head.as_bytes())?;
     out.extend_from_slice(bytes)?;
-    out.push(b'\n')?;
+    out.extend_from_slice(tail.as_bytes())?;
     Ok(())
 }
 
+// The line of component `c` of element `e`.
+pub fn push_component(
+    heap: Global,
+    out: &mut Vec<u8>,
+    e: usize,
+    c: usize,
+    bytes: &[u8],
+) -> Result<(), AllocError>
+    ensures { λ r. ⌜ made r (λ _. vec-items (now (out .exit)) ≡ vec-items (now (out .entry)) ++ componentLine e c (now (bytes .entry))) ⌝ }
+{
+    let head = format!(heap, "component\t{e}\t{c}\t")?;
+    push_line(out, head.as_str(), bytes, "\n")
+}
+
 // The lines of the components of element `e`.
-pub fn push_element(heap: Global, out: &mut Vec<u8>, e: usize, element: &Element<'_>) -> Result<(), AllocError>
+pub fn push_element(
+    heap: Global,
+    out: &mut Vec<u8>,
+    e: usize,
+    element: &Element<'_>,
+) -> Result<(), AllocError>
     ensures { λ r. ⌜ made r (λ _. vec-items (now (out .exit)) ≡ vec-items (now (out .entry)) ++ elementLines (elementPart (now (element .entry)) .marks) e (elementPart (now (element .entry)) .bytes)) ⌝ }
 {
     let mut left = element.components();
@@ -44,7 +62,11 @@ pub fn push_element(heap: Global, out: &mut Vec<u8>, e: usize, element: &Element
 }
 
 // The lines of the elements behind the tag.
-pub fn push_elements(heap: Global, out: &mut Vec<u8>, segment: &Segment<'_>) -> Result<(), AllocError>
+pub fn push_elements(
+    heap: Global,
+    out: &mut Vec<u8>,
+    segment: &Segment<'_>,
+) -> Result<(), AllocError>
     ensures { λ r. ⌜ made r (λ _. vec-items (now (out .exit)) ≡ vec-items (now (out .entry)) ++ lines (elementLines (cutOf (now (segment .entry)) .marks)) 1 (othersOf (elementsIn (cutOf (now (segment .entry)) .marks) (cutOf (now (segment .entry)) .bytes)))) ⌝ }
 {
     let mut left = segment.elements();
@@ -68,14 +90,16 @@ pub fn push_head(heap: Global, out: &mut Vec<u8>, segment: &Segment<'_>) -> Resu
     let tag = segment.tag();
     let head = format!(heap, "segment\t{number}\t")?;
     let tail = format!(heap, "\t{first}\t{length}\n")?;
-    out.extend_from_slice(head.as_bytes())?;
-    out.extend_from_slice(&tag)?;
-    out.extend_from_slice(tail.as_bytes())?;
+    push_line(out, head.as_str(), &tag, tail.as_str())?;
     Ok(())
 }
 
 // The lines of a segment and its components.
-pub fn push_segment(heap: Global, out: &mut Vec<u8>, segment: &Segment<'_>) -> Result<(), AllocError>
+pub fn push_segment(
+    heap: Global,
+    out: &mut Vec<u8>,
+    segment: &Segment<'_>,
+) -> Result<(), AllocError>
     ensures { λ r. ⌜ made r (λ _. vec-items (now (out .exit)) ≡ vec-items (now (out .entry)) ++ segmentLines (cutOf (now (segment .entry)))) ⌝ }
 {
     push_head(heap, out, segment)?;
@@ -100,7 +124,10 @@ pub fn push_fault(heap: Global, out: &mut Vec<u8>, fault: CutFault) -> Result<()
     let segment = refusal.place.segment;
     let element = refusal.place.element;
     let component = refusal.place.component;
-    let line = format!(heap, "stopped\t{number}\t{segment}\t{element}\t{component}\n")?;
+    let line = format!(
+        heap,
+        "stopped\t{number}\t{segment}\t{element}\t{component}\n"
+    )?;
     out.extend_from_slice(line.as_bytes())
 }
 
@@ -108,14 +135,16 @@ pub fn push_fault(heap: Global, out: &mut Vec<u8>, fault: CutFault) -> Result<()
 pub fn push_name(out: &mut Vec<u8>, name: &str) -> Result<(), AllocError>
     ensures { λ r. ⌜ made r (λ _. vec-items (now (out .exit)) ≡ vec-items (now (out .entry)) ++ fileLine (now (name .entry))) ⌝ }
 {
-    out.extend_from_slice(b"file\t")?;
-    out.extend_from_slice(name.as_bytes())?;
-    out.push(b'\n')?;
-    Ok(())
+    push_line(out, "file\t", name.as_bytes(), "\n")
 }
 
 // The lines of a text, under a name; answers the fault at which it is stopped.
-pub fn push_text(heap: Global, out: &mut Vec<u8>, name: &str, text: &[u8]) -> Result<Option<CutFault>, AllocError>
+pub fn push_text(
+    heap: Global,
+    out: &mut Vec<u8>,
+    name: &str,
+    text: &[u8],
+) -> Result<Option<CutFault>, AllocError>
     ensures { λ r. ⌜ made r (λ f. (f ≡ cut (now (text .entry)) .fault) × (vec-items (now (out .exit)) ≡ vec-items (now (out .entry)) ++ listing (now (name .entry)) (now (text .entry)))) ⌝ }
 {
     push_name(out, name)?;

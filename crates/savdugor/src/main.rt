@@ -60,7 +60,11 @@ fn list_all(rt: &LibcRuntime, format: Format, names: Vec<String>) -> Result<(), 
             good = false;
         }
     }
-    if good { Ok(()) } else { Err("not every text was cut throughout".into()) }
+    if good {
+        Ok(())
+    } else {
+        Err("not every text was cut throughout".into())
+    }
 }
 
 fn main(rt: LibcRuntime) -> Result<(), AnyError> {

@@ -72,7 +72,11 @@ fn cutter_stays_where_it_stops() -> Result<(), Fail> {
     check(ended.next()?.is_none())?;
     check(ended.next()?.is_none())?;
     let mut stopped = Cutter::new(b"BGM+A:");
-    let fault = CutFault::UnendedSegment(Place { segment: 1, element: 1, component: 2 });
+    let fault = CutFault::UnendedSegment(Place {
+        segment: 1,
+        element: 1,
+        component: 2,
+    });
     for _ in 0..2 {
         match stopped.next() {
             Ok(_) => return Err(Fail::new("no fault")),

@@ -1,13 +1,14 @@
 // What the cutter does.
 ghost use mathlib.Core.Path.{_≡_};
 ghost use mathlib.Core.Bool.{cond};
-ghost use Prim.Native.Nat.{_+_, _≤_};
-ghost use lib.ListN.{length};
+ghost use mathlib.Core.List.{List};
+ghost use Prim.Native.Nat.{ℕ, _+_, _^_, _≤_, _<_};
+ghost use lib.ListN.{length as size};
 ghost use Rattle.std.specs.Options.{valueOr};
 ghost use Rattle.edifact.specs.Marks.{hasHeader, headerLength, marksOf, usual};
 ghost use Rattle.edifact.specs.Bytes.{breakRun};
 ghost use Rattle.edifact.specs.Cutting.{cut};
-ghost use Rattle.edifact.specs.Laws.{JoinsBack, OnlyCut};
+ghost use Rattle.edifact.specs.Laws.{JoinsBack, OnlyCut, CharactersSpelled};
 ghost use Rattle.edifact.specs.Cursors.{remaining, Tells, HandsOut};
 use crate::cutter::Cutter;
 use crate::fault::CutFault;
@@ -28,9 +29,20 @@ fn header_length(text: &[u8]) -> usize
 // How many CR and LF are skipped in front of the first segment: only behind a header.
 fn leading_breaks(text: &[u8], body: &[u8]) -> usize
     ensures value { λ r. ⌜ r ≡ cond (hasHeader (now (text .entry))) (breakRun (now (body .entry))) 0 ⌝ }
-    ensures within { λ r. ⌜ r ≤ length (now (body .entry)) ⌝ }
+    ensures within { λ r. ⌜ r ≤ size (now (body .entry)) ⌝ }
 {
-    if has_header(text) { break_count(body) } else { 0 }
+    if !has_header(text) {
+        return 0;
+    }
+    break_count(body)
+}
+
+// Where the next segment begins: behind a segment that begins at `at`, its terminator and the skipped breaks.
+fn behind_segment(at: usize, length: usize, skipped: usize) -> usize
+    requires { ⌜ at + (length + 1 + skipped) < 2 ^ 64 ⌝ }
+    ensures { λ r. ⌜ r ≡ at + (length + 1 + skipped) ⌝ }
+{
+    at + (length + 1 + skipped)
 }
 
 impl<'t> Cutter<'t> {
@@ -39,16 +51,31 @@ impl<'t> Cutter<'t> {
         ensures cuts { λ r. ⌜ remaining r ≡ cut (now (text .entry)) ⌝ }
         ensures joins { λ _. ⌜ JoinsBack (now (text .entry)) ⌝ }
         ensures only { λ _. ⌜ OnlyCut (now (text .entry)) ⌝ }
+        ensures spelled { λ _. ⌜ ((m : Marks) (bs : List ℕ) → CharactersSpelled m bs) ⌝ }
         ensures marks { λ r. ⌜ r .marks ≡ valueOr (marksOf (now (text .entry))) usual ⌝ }
     {
         let (marks, body) = match read_header(text) {
             Ok(head) => head,
             Err(fault) => {
-                return Cutter { marks: Marks::usual(), body: text, offset: 0, at: 0, number: 0, fault: Some(fault) };
+                return Cutter {
+                    marks: Marks::usual(),
+                    body: text,
+                    offset: 0,
+                    at: 0,
+                    number: 0,
+                    fault: Some(fault),
+                };
             }
         };
         let at = leading_breaks(text, body);
-        Cutter { marks, body, offset: header_length(text), at, number: 0, fault: None }
+        Cutter {
+            marks,
+            body,
+            offset: header_length(text),
+            at,
+            number: 0,
+            fault: None,
+        }
     }
 
     // The marks of the text, and the usual ones where its header is bad.
@@ -96,9 +123,15 @@ impl<'t> Cutter<'t> {
                 let tag = found.tag;
                 let (bytes, behind) = rest.split_at(n);
                 let skipped = break_count(&behind[1..]);
-                self.at = at + (n + 1 + skipped);
+                self.at = behind_segment(at, n, skipped);
                 self.number = number;
-                Ok(Some(Segment { marks, number, first, bytes, tag }))
+                Ok(Some(Segment {
+                    marks,
+                    number,
+                    first,
+                    bytes,
+                    tag,
+                }))
             }
             Err(fault) => {
                 self.fault = Some(fault);

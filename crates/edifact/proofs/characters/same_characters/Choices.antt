@@ -1,10 +1,10 @@
 use mathlib.Core.Path.{_≡_}
 use mathlib.Core.Bool.{false}
 use lib.ListN.{drop}
-use Rattle.edifact.specs.Marks.{same}
+use Rattle.std.specs.shelf.Text.{sameBytes}
 use Rattle.edifact.specs.Split.{characters}
 use Rattle.edifact.specs.Cursors.{charactersLeft}
 use Rattle.edifact.proofs.characters.same_characters.Given as given
 
 abbrev pub Inv-loop-p : given.InvT-loop-p
-Inv-loop-p l = same (charactersLeft (l .characters)) (drop (l .p-index) (l .plain)) ≡ same (characters (l .release) false (l .bytes)) (l .plain)
+Inv-loop-p l = sameBytes (charactersLeft (l .characters)) (drop (l .p-index) (l .plain)) ≡ sameBytes (characters (l .release) false (l .bytes)) (l .plain)

@@ -9,5 +9,5 @@ use Rattle.listing.proofs.plain.push_element.Given as given
 
 abbrev pub Inv-loop-c : given.InvT-loop-c
 Inv-loop-c l =
-  (l .c + length (componentsLeft (l .left)) ≡ length (componentsLeft (l .entry .left)))
-  × (vec-items (l .out) ++ lines (λ k p. componentLine (l .e) k (p .bytes)) (l .c + 1) (componentsLeft (l .left)) ≡ vec-items (l .entry .out) ++ lines (λ k p. componentLine (l .e) k (p .bytes)) 1 (componentsLeft (l .entry .left)))
+    (l .c + length (componentsLeft (l .left)) ≡ length (componentsLeft (l .entry .left)))
+    × (vec-items (l .out) ++ lines (λ k p. componentLine (l .e) k (p .bytes)) (l .c + 1) (componentsLeft (l .left)) ≡ vec-items (l .entry .out) ++ lines (λ k p. componentLine (l .e) k (p .bytes)) 1 (componentsLeft (l .entry .left)))

@@ -9,5 +9,5 @@ use Rattle.listing.proofs.plain.push_elements.Given as given
 
 abbrev pub Inv-loop-e : given.InvT-loop-e
 Inv-loop-e l =
-  (l .e + length (elementsLeft (l .left)) ≡ 1 + length (elementsLeft (l .entry .left)))
-  × (vec-items (l .out) ++ lines (λ k p. elementLines (p .marks) k (p .bytes)) (l .e) (elementsLeft (l .left)) ≡ vec-items (l .entry .out) ++ lines (λ k p. elementLines (p .marks) k (p .bytes)) 1 (elementsLeft (l .entry .left)))
+    (l .e + length (elementsLeft (l .left)) ≡ 1 + length (elementsLeft (l .entry .left)))
+    × (vec-items (l .out) ++ lines (λ k p. elementLines (p .marks) k (p .bytes)) (l .e) (elementsLeft (l .left)) ≡ vec-items (l .entry .out) ++ lines (λ k p. elementLines (p .marks) k (p .bytes)) 1 (elementsLeft (l .entry .left)))
