@@ -7,11 +7,11 @@ use native.Mathlib.Omega.{arith}
 use lib.ListN.{length, take, drop}
 use Rattle.std.proofs.shelf.Tests.{and-parts, and-from, cond-both, cond-true, cond-false}
 use Rattle.std.proofs.shelf.Ways.{tells}
-use Rattle.edifact.specs.Bytes.{lineBreak, breakRun}
-use Rattle.edifact.specs.Split.{releases, divides, onto, split}
+use Rattle.syntax.specs.Bytes.{lineBreak, breakRun}
+use Rattle.syntax.specs.Split.{releases, divides, onto, split}
 use Rattle.edifact.specs.Segments.{firstOf, othersOf}
 use Rattle.edifact.specs.Laws.{areBreaks}
-use Rattle.edifact.proofs.Splits.{split-some}
+use Rattle.syntax.proofs.Splits.{split-some}
 use Rattle.edifact.proofs.Wholes.{closed, EndedClosed, first-onto, others-onto, first-others}
 
 break-is-no-mark : (rl k b : ℕ) → 33 ≤ rl → 33 ≤ k → lineBreak b ≡ true →

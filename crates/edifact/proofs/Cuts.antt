@@ -13,22 +13,22 @@ use Rattle.std.specs.declared.option.Option.{Option}
 use Rattle.std.specs.declared.option.Option.the-variants.{Some, None}
 use Rattle.std.specs.declared.result.Result.{Result}
 use Rattle.std.specs.declared.result.Result.the-variants.{Ok, Err}
-use Rattle.edifact.specs.declared.fault.CutFault.{CutFault}
-use Rattle.edifact.specs.declared.marks.Marks.{Marks}
+use Rattle.syntax.specs.declared.fault.CutFault.{CutFault}
+use Rattle.syntax.specs.declared.marks.Marks.{Marks}
 use Rattle.edifact.specs.declared.scan.Found.{Found}
-use Rattle.edifact.specs.Bytes.{breakRun}
-use Rattle.edifact.specs.Marks.{lawful}
-use Rattle.edifact.specs.Split.{split, reach}
+use Rattle.syntax.specs.Bytes.{breakRun}
+use Rattle.syntax.specs.Marks.{lawful}
+use Rattle.syntax.specs.Split.{split, reach}
 use Rattle.edifact.specs.Segments.{firstOf, othersOf, judged}
 use Rattle.edifact.specs.Scanning.{withLength, segmentIn}
 use Rattle.edifact.specs.Cutting.{Cut, Cutting, ended, stopped, push, pushed, cutPieces, cutFrom}
 use Rattle.edifact.specs.Cursors.{unlessStopped}
 use Rattle.edifact.specs.Laws.{IsCut}
 use Rattle.edifact.proofs.Breaks.{breakRun-first, split-skipped}
-use Rattle.edifact.proofs.Lawfulness.{lawful-distinct}
+use Rattle.syntax.proofs.Lawfulness.{lawful-distinct}
 use Rattle.edifact.proofs.PartsWhole.{parts-join, part-whole}
 use Rattle.edifact.proofs.Wholes.{EndedClosed, closed, noMark, split-ended-closed}
-use Rattle.edifact.proofs.Splits.{split-some, split-next, split-last, reach-within}
+use Rattle.syntax.proofs.Splits.{split-some, split-next, split-last, reach-within}
 
 pub cut-none : (m : Marks) (k at : ℕ) (bs : List ℕ) → length bs ≡ 0 → cutFrom m k at bs ≡ ended
 cut-none m k at [] h = refl

@@ -12,17 +12,17 @@ use Rattle.std.specs.declared.option.Option.{Option}
 use Rattle.std.specs.declared.option.Option.the-variants.{Some, None}
 use Rattle.std.specs.declared.result.Result.{Result}
 use Rattle.std.specs.declared.result.Result.the-variants.{Ok, Err}
-use Rattle.edifact.specs.declared.fault.CutFault.{CutFault}
-use Rattle.edifact.specs.declared.fault.CutFault.the-variants.{BadHeader, ForbiddenByte, UnendedSegment}
-use Rattle.edifact.specs.declared.marks.Marks.{Marks}
-use Rattle.edifact.specs.Bytes.{allowedRun, breakRun}
-use Rattle.edifact.specs.Marks.{hasHeader, headerLength, marksOf, body, lawful}
-use Rattle.edifact.specs.Split.{split, join}
+use Rattle.syntax.specs.declared.fault.CutFault.{CutFault}
+use Rattle.syntax.specs.declared.fault.CutFault.the-variants.{BadHeader, ForbiddenByte, UnendedSegment}
+use Rattle.syntax.specs.declared.marks.Marks.{Marks}
+use Rattle.syntax.specs.Bytes.{allowedRun, breakRun}
+use Rattle.syntax.specs.Marks.{hasHeader, headerLength, marksOf, body, lawful}
+use Rattle.syntax.specs.Split.{split, join}
 use Rattle.edifact.specs.Segments.{firstOf, othersOf, placeBehind, holdsForbidden, judged, partsOf}
 use Rattle.edifact.specs.Cutting.{Cut, Cutting, ended, stopped, pushed, cutPieces, cutFrom, leadingBreaks, cutWith}
 use Rattle.edifact.specs.Laws.{areBreaks, Written, AreWritten, segmentBytes, joined, cutsOf, Composed, cutsAs, JoinsBack}
-use Rattle.edifact.proofs.Splits.{split-some, join-split}
-use Rattle.edifact.proofs.Lawfulness.{lawful-distinct, marks-lawful}
+use Rattle.syntax.proofs.Splits.{split-some, join-split}
+use Rattle.syntax.proofs.Lawfulness.{lawful-distinct, marks-lawful}
 use Rattle.edifact.proofs.Wholes.{closed, EndedClosed, noMark, first-others, split-ended-closed}
 use Rattle.edifact.proofs.Breaks.{skipped-breaks, breakRun-within, ended-closed-skipped}
 use Rattle.edifact.proofs.PartsWhole.{parts-join, part-whole}

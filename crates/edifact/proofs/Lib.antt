@@ -1,9 +1,6 @@
-pub mod Splits
-pub mod CharacterSteps
 pub mod Tags
 pub mod Scans
-pub mod Lawfulness
-pub mod Headers
+pub mod Beginnings
 pub mod Wholes
 pub mod Breaks
 pub mod PartsWhole
@@ -13,3 +10,4 @@ pub mod JoinsBack
 pub mod Spelling
 pub mod Numbers
 pub mod Steps
+pub mod Trials

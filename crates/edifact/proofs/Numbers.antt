@@ -10,11 +10,11 @@ use Rattle.std.specs.declared.option.Option.{Option}
 use Rattle.std.specs.declared.option.Option.the-variants.{Some, None}
 use Rattle.std.specs.declared.result.Result.{Result}
 use Rattle.std.specs.declared.result.Result.the-variants.{Ok, Err}
-use Rattle.edifact.specs.declared.fault.CutFault.{CutFault}
-use Rattle.edifact.specs.declared.marks.Marks.{Marks}
-use Rattle.edifact.specs.Bytes.{breakRun}
-use Rattle.edifact.specs.Marks.{headerLength, marksOf, body}
-use Rattle.edifact.specs.Split.{split}
+use Rattle.syntax.specs.declared.fault.CutFault.{CutFault}
+use Rattle.syntax.specs.declared.marks.Marks.{Marks}
+use Rattle.syntax.specs.Bytes.{breakRun}
+use Rattle.syntax.specs.Marks.{headerLength, marksOf, body}
+use Rattle.syntax.specs.Split.{split}
 use Rattle.edifact.specs.Segments.{firstOf, othersOf, judged}
 use Rattle.edifact.specs.Cutting.{Cut, Cutting, ended, pushed, cutPieces, cutFrom, leadingBreaks, cutWith, cut}
 

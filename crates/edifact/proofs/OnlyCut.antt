@@ -10,15 +10,15 @@ use Rattle.std.proofs.shelf.Lists.{drop-at}
 use Rattle.std.proofs.shelf.Tests.{and-parts, cond-both, leb-true}
 use Rattle.std.specs.declared.option.Option.the-variants.{Some, None}
 use Rattle.std.specs.declared.result.Result.the-variants.{Ok}
-use Rattle.edifact.specs.declared.marks.Marks.{Marks}
-use Rattle.edifact.specs.Bytes.{allowed, breakRun}
-use Rattle.edifact.specs.Marks.{hasHeader, headerLength, body}
-use Rattle.edifact.specs.Split.{releases, split}
+use Rattle.syntax.specs.declared.marks.Marks.{Marks}
+use Rattle.syntax.specs.Bytes.{allowed, breakRun}
+use Rattle.syntax.specs.Marks.{hasHeader, headerLength, body}
+use Rattle.syntax.specs.Split.{releases, split}
 use Rattle.edifact.specs.Segments.{firstOf, othersOf, judged, partsOf}
 use Rattle.edifact.specs.Cutting.{Cut, Cutting, push, pushed, cutPieces, cutFrom, leadingBreaks, cutWith, cut}
 use Rattle.edifact.specs.Laws.{tagAmong, Written, IsWritten, AreWritten, segmentBytes, joined, cutsOf, Composed, cutsAs, OnlyCut}
-use Rattle.edifact.proofs.Splits.{split-some}
-use Rattle.edifact.proofs.Lawfulness.{Distinct, lawful-distinct, marks-lawful}
+use Rattle.syntax.proofs.Splits.{split-some}
+use Rattle.syntax.proofs.Lawfulness.{Distinct, lawful-distinct, marks-lawful}
 use Rattle.edifact.proofs.Wholes.{closed, noMark, split-before}
 use Rattle.edifact.proofs.Breaks.{breakRun-first, split-skipped, breakRun-append, breakRun-allowed}
 use Rattle.edifact.proofs.PartsWhole.{segmentFits, segment-excludes, segment-closed, parts-back, tag-among-parts, judged-closed}

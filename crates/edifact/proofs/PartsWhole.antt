@@ -13,16 +13,16 @@ use Rattle.std.proofs.shelf.Ways.{tells}
 use Rattle.std.specs.declared.option.Option.{Option}
 use Rattle.std.specs.declared.option.Option.the-variants.{Some, None}
 use Rattle.std.specs.declared.result.Result.the-variants.{Ok, Err}
-use Rattle.edifact.specs.declared.fault.CutFault.{CutFault}
-use Rattle.edifact.specs.declared.fault.CutFault.the-variants.{ForbiddenByte}
-use Rattle.edifact.specs.declared.marks.Marks.{Marks}
-use Rattle.edifact.specs.Bytes.{allowed, allowedRun}
-use Rattle.edifact.specs.Marks.{lawful}
-use Rattle.edifact.specs.Split.{releases, divides, join, characters}
+use Rattle.syntax.specs.declared.fault.CutFault.{CutFault}
+use Rattle.syntax.specs.declared.fault.CutFault.the-variants.{ForbiddenByte}
+use Rattle.syntax.specs.declared.marks.Marks.{Marks}
+use Rattle.syntax.specs.Bytes.{allowed, allowedRun}
+use Rattle.syntax.specs.Marks.{lawful}
+use Rattle.syntax.specs.Split.{releases, divides, join, characters}
 use Rattle.edifact.specs.Segments.{elements, components, firstOf, tagIn, tagOf, holdsForbidden, placeBehind, tagged, judged, partsOf}
 use Rattle.edifact.specs.Laws.{separates, isWhole, areWhole, haveWhole, tagAmong, segmentBytes}
-use Rattle.edifact.proofs.Splits.{split-some, join-split}
-use Rattle.edifact.proofs.Lawfulness.{Between, Distinct, lawful-distinct}
+use Rattle.syntax.proofs.Splits.{split-some, join-split}
+use Rattle.syntax.proofs.Lawfulness.{Between, Distinct, lawful-distinct}
 use Rattle.edifact.proofs.Wholes.{closed, allClosed, noMark, all-closed-implied, split-join, closed-join, split-all-closed}
 
 -- the bytes of a segment, of an element and of a component

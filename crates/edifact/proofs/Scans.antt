@@ -12,15 +12,15 @@ use Rattle.std.proofs.shelf.Lists.{at-drop-more, at-drop-all, length-take-le, t
 use Rattle.std.proofs.shelf.Tests.{cond-both, lt-ltb, cases-lt}
 use Rattle.std.specs.declared.result.Result.{Result}
 use Rattle.std.specs.declared.result.Result.the-variants.{Ok, Err}
-use Rattle.edifact.specs.declared.fault.CutFault.{CutFault}
-use Rattle.edifact.specs.declared.fault.CutFault.the-variants.{ForbiddenByte, UnendedSegment}
-use Rattle.edifact.specs.declared.marks.Marks.{Marks}
-use Rattle.edifact.specs.Bytes.{allowed, allowedRun}
-use Rattle.edifact.specs.Split.{releases, divides, onto, split, reach}
+use Rattle.syntax.specs.declared.fault.CutFault.{CutFault}
+use Rattle.syntax.specs.declared.fault.CutFault.the-variants.{ForbiddenByte, UnendedSegment}
+use Rattle.syntax.specs.declared.marks.Marks.{Marks}
+use Rattle.syntax.specs.Bytes.{allowed, allowedRun}
+use Rattle.syntax.specs.Split.{releases, divides, onto, split, reach}
 use Rattle.edifact.specs.Segments.{elements, components, lastOf, placeBehind}
 use Rattle.edifact.specs.declared.scan.Standing.{Standing}
 use Rattle.edifact.specs.Scanning.{after, start, placed, bounded, endIn}
-use Rattle.edifact.proofs.Splits.{split-some, divides-is, length-onto, ltb-suc, reach-within}
+use Rattle.syntax.proofs.Splits.{split-some, divides-is, length-onto, ltb-suc, reach-within}
 
 abbrev pub scan : Marks → (k : ℕ) → Standing → ℕ → List ℕ → Result ℕ CutFault
 scan m k p i [] = Err (UnendedSegment (placed k p))

@@ -6,9 +6,9 @@ use Prim.Native.Nat.{ℕ}
 use native.Mathlib.Omega.{arith}
 use lib.Dec.{eqb}
 use Rattle.std.proofs.shelf.Tests.{and-parts, eqb-true, eqb-false, eq-eqb, ne-eqb}
-use Rattle.edifact.specs.declared.marks.Marks.{Marks}
-use Rattle.edifact.specs.Bytes.{allowed}
-use Rattle.edifact.specs.Split.{releases, characters}
+use Rattle.syntax.specs.declared.marks.Marks.{Marks}
+use Rattle.syntax.specs.Bytes.{allowed}
+use Rattle.syntax.specs.Split.{releases, characters}
 use Rattle.edifact.specs.Laws.{separates, isWhole, Spells, CharactersSpelled}
 
 -- the characters of bytes of which the first is a release mark or isn't

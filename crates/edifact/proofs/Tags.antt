@@ -10,11 +10,11 @@ use Rattle.std.proofs.shelf.Tests.{cond-both, cond-true, cond-false, eq-eqb, ne
 use Rattle.std.proofs.shelf.Ways.{tells}
 use Rattle.std.specs.declared.option.Option.{Option}
 use Rattle.std.specs.declared.option.Option.the-variants.{Some, None}
-use Rattle.edifact.specs.declared.marks.Marks.{Marks}
-use Rattle.edifact.specs.Split.{releases, split, reach, characters}
-use Rattle.edifact.specs.Bytes.{lineBreak, breakRun}
+use Rattle.syntax.specs.declared.marks.Marks.{Marks}
+use Rattle.syntax.specs.Split.{releases, split, reach, characters}
+use Rattle.syntax.specs.Bytes.{lineBreak, breakRun}
 use Rattle.edifact.specs.Segments.{elements, components, firstOf, othersOf, isTag, tagIn, tagOf}
-use Rattle.edifact.proofs.Splits.{split-reach, split-some, split-next, split-last, reach-within}
+use Rattle.syntax.proofs.Splits.{split-reach, split-some, split-next, split-last, reach-within}
 
 pub first-split : (rl k : ℕ) (bs : List ℕ) → firstOf (split rl k false bs) ≡ take (reach rl k false bs) bs
 first-split rl k bs = ap firstOf (split-reach rl k false bs) ∙

@@ -7,9 +7,9 @@ use native.Mathlib.Omega.{arith}
 use lib.ListN.{length}
 use Rattle.std.proofs.shelf.Tests.{and-parts, and-from, not-from-false, cond-true, cond-false, cond-both}
 use Rattle.std.proofs.shelf.Ways.{tells}
-use Rattle.edifact.specs.Split.{releases, divides, onto, split, join}
+use Rattle.syntax.specs.Split.{releases, divides, onto, split, join}
 use Rattle.edifact.specs.Segments.{firstOf, othersOf}
-use Rattle.edifact.proofs.Splits.{split-some, divides-is}
+use Rattle.syntax.proofs.Splits.{split-some, divides-is}
 
 -- each byte fits, given whether it is protected, and the bytes don't end behind a release mark
 abbrev pub closed : (fits : Bool → ℕ → Bool) (release : ℕ) (protected : Bool) → List ℕ → Bool

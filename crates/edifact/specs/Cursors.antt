@@ -1,40 +1,24 @@
 -- What the values that borrow a text stand for.
-use mathlib.Core.Bool.{Bool, true, false, cond}
 use mathlib.Core.Path.{_≡_}
-use mathlib.Core.List.{List, [], _∷_, map}
+use mathlib.Core.List.{List, map}
 use Prim.Native.Nat.{ℕ, _+_}
-use lib.ListN.{length, drop}
+use lib.ListN.{drop}
 use denote.Ref.{now}
 use Rattle.std.specs.declared.option.Option.{Option}
 use Rattle.std.specs.declared.option.Option.the-variants.{Some, None}
 use Rattle.std.specs.declared.result.Result.{Result}
 use Rattle.std.specs.declared.result.Result.the-variants.{Ok, Err}
-use Rattle.edifact.specs.declared.characters.Characters.{Characters}
 use Rattle.edifact.specs.declared.cutter.Cutter.{Cutter}
-use Rattle.edifact.specs.declared.fault.CutFault.{CutFault}
-use Rattle.edifact.specs.declared.marks.Marks.{Marks}
-use Rattle.edifact.specs.declared.pieces.Pieces.{Pieces}
+use Rattle.syntax.specs.declared.fault.CutFault.{CutFault}
+use Rattle.syntax.specs.declared.marks.Marks.{Marks}
 use Rattle.edifact.specs.declared.component.Component.{Component}
 use Rattle.edifact.specs.declared.component.Components.{Components}
 use Rattle.edifact.specs.declared.element.Element.{Element}
 use Rattle.edifact.specs.declared.element.Elements.{Elements}
 use Rattle.edifact.specs.declared.segment.Segment.{Segment}
-use Rattle.edifact.specs.Split.{split, characters}
+use Rattle.syntax.specs.Cursors.{piecesLeft}
 use Rattle.edifact.specs.Laws.{IsCut}
 use Rattle.edifact.specs.Cutting.{Cut, Cutting, ended, stopped, push, cutFrom}
-
--- one step of a cursor: the first of what was left, or that nothing was
-abbrev pub Takes : {X : Type 0} → (before : List X) → Option X → (after : List X) → Type 0
-Takes before None after = (before ≡ []) × (after ≡ [])
-Takes before (Some x) after = before ≡ x ∷ after
-
--- the pieces that are still to come
-abbrev pub piecesLeft : Pieces → List (List ℕ)
-piecesLeft c = cond (c .more) (split (c .release) (c .mark) false (now (c .rest))) []
-
--- the characters that are still to come
-abbrev pub charactersLeft : Characters → List ℕ
-charactersLeft c = characters (c .release) false (now (c .rest))
 
 -- an element or a component: its bytes as the text has them, with the text's marks
 pub record Part : Type 0 where

@@ -9,12 +9,12 @@ use Rattle.std.specs.declared.option.Option.{Option}
 use Rattle.std.specs.declared.option.Option.the-variants.{Some, None}
 use Rattle.std.specs.declared.result.Result.{Result}
 use Rattle.std.specs.declared.result.Result.the-variants.{Ok, Err}
-use Rattle.edifact.specs.declared.fault.CutFault.{CutFault}
-use Rattle.edifact.specs.declared.fault.CutFault.the-variants.{BadHeader}
-use Rattle.edifact.specs.declared.marks.Marks.{Marks}
-use Rattle.edifact.specs.Bytes.{breakRun}
-use Rattle.edifact.specs.Marks.{hasHeader, headerLength, marksOf, body}
-use Rattle.edifact.specs.Split.{split}
+use Rattle.syntax.specs.declared.fault.CutFault.{CutFault}
+use Rattle.syntax.specs.declared.fault.CutFault.the-variants.{BadHeader}
+use Rattle.syntax.specs.declared.marks.Marks.{Marks}
+use Rattle.syntax.specs.Bytes.{breakRun}
+use Rattle.syntax.specs.Marks.{hasHeader, headerLength, marksOf, body}
+use Rattle.syntax.specs.Split.{split}
 use Rattle.edifact.specs.Segments.{firstOf, othersOf, judged}
 
 -- a segment of a text: its number from 1, its first byte from 0 of the whole text, its bytes without the terminator

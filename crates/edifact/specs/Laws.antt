@@ -7,10 +7,10 @@ use lib.Dec.{eqb, ltb}
 use lib.ListN.{length}
 use Rattle.std.specs.declared.option.Option.{Option}
 use Rattle.std.specs.declared.option.Option.the-variants.{Some, None}
-use Rattle.edifact.specs.declared.marks.Marks.{Marks}
-use Rattle.edifact.specs.Bytes.{allowed, lineBreak}
-use Rattle.edifact.specs.Marks.{lawful, hasHeader, headerLength, marksOf, body}
-use Rattle.edifact.specs.Split.{releases, join, characters}
+use Rattle.syntax.specs.declared.marks.Marks.{Marks}
+use Rattle.syntax.specs.Bytes.{allowed, lineBreak}
+use Rattle.syntax.specs.Marks.{lawful, hasHeader, headerLength, marksOf, body}
+use Rattle.syntax.specs.Split.{releases, join, characters}
 use Rattle.edifact.specs.Segments.{tagIn, partsOf}
 use Rattle.edifact.specs.Cutting.{Cut, Cutting, cut}
 

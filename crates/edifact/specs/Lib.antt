@@ -1,7 +1,3 @@
-pub mod Bytes
-pub mod Marks
-pub mod Faults
-pub mod Split
 pub mod Segments
 pub mod Cutting
 pub mod Laws

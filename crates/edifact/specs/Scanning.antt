@@ -2,21 +2,18 @@
 use mathlib.Core.Bool.{Bool, true, false, cond}
 use mathlib.Core.List.{List, [], _∷_}
 use Prim.Native.Nat.{ℕ, _+_}
-use lib.Dec.{eqb, ltb}
-use lib.ListN.{length, getD, take}
-use Rattle.std.specs.declared.option.Option.{Option}
-use Rattle.std.specs.declared.option.Option.the-variants.{Some, None}
+use lib.Dec.{ltb}
+use lib.ListN.{length, take}
 use Rattle.std.specs.declared.result.Result.{Result}
 use Rattle.std.specs.declared.result.Result.the-variants.{Ok, Err}
-use Rattle.edifact.specs.declared.fault.CutFault.{CutFault}
-use Rattle.edifact.specs.declared.fault.CutFault.the-variants.{ForbiddenByte, UnendedSegment}
-use Rattle.edifact.specs.declared.fault.Place.{Place}
-use Rattle.edifact.specs.declared.characters.FoundCharacter.{FoundCharacter}
-use Rattle.edifact.specs.declared.marks.Marks.{Marks}
+use Rattle.syntax.specs.declared.fault.CutFault.{CutFault}
+use Rattle.syntax.specs.declared.fault.CutFault.the-variants.{ForbiddenByte, UnendedSegment}
+use Rattle.syntax.specs.declared.fault.Place.{Place}
+use Rattle.syntax.specs.declared.marks.Marks.{Marks}
 use Rattle.edifact.specs.declared.scan.Standing.{Standing}
 use Rattle.edifact.specs.declared.scan.Found.{Found}
-use Rattle.edifact.specs.Bytes.{allowedRun}
-use Rattle.edifact.specs.Split.{releases, divides, reach}
+use Rattle.syntax.specs.Bytes.{allowedRun}
+use Rattle.syntax.specs.Split.{releases, divides, reach}
 use Rattle.edifact.specs.Segments.{placeBehind, holdsForbidden, judged}
 
 -- where a scan stands in a segment: whether the next byte is protected, and the element and component it is in
@@ -33,14 +30,6 @@ start = record { protected = false; element = 0; component = 1 }
 -- the standing as a place of segment k
 abbrev pub placed : ℕ → Standing → Place
 placed k s = record { segment = k; element = s .element; component = s .component }
-
--- the character with which bytes begin
-abbrev pub characterIn : (release : ℕ) → List ℕ → Option FoundCharacter
-characterIn release bs =
-    cond (eqb (length bs) 0) None
-    (cond (eqb (getD bs 0 0) release)
-    (cond (ltb (length bs) 2) None (Some (record { character = getD bs 1 0; length = 2 })))
-    (Some (record { character = getD bs 0 0; length = 1 })))
 
 -- the length of segment k, whose bytes are p, or the fault that the cutter meets in it
 abbrev pub bounded : Marks → ℕ → (ended : Bool) → List ℕ → Result ℕ CutFault

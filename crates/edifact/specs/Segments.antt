@@ -10,12 +10,12 @@ use Rattle.std.specs.declared.option.Option.{Option}
 use Rattle.std.specs.declared.option.Option.the-variants.{Some, None}
 use Rattle.std.specs.declared.result.Result.{Result}
 use Rattle.std.specs.declared.result.Result.the-variants.{Ok, Err}
-use Rattle.edifact.specs.declared.fault.CutFault.{CutFault}
-use Rattle.edifact.specs.declared.fault.CutFault.the-variants.{ForbiddenByte, UnendedSegment, BadTag}
-use Rattle.edifact.specs.declared.fault.Place.{Place}
-use Rattle.edifact.specs.declared.marks.Marks.{Marks}
-use Rattle.edifact.specs.Bytes.{capital, allowedRun}
-use Rattle.edifact.specs.Split.{split, characters}
+use Rattle.syntax.specs.declared.fault.CutFault.{CutFault}
+use Rattle.syntax.specs.declared.fault.CutFault.the-variants.{ForbiddenByte, UnendedSegment, BadTag}
+use Rattle.syntax.specs.declared.fault.Place.{Place}
+use Rattle.syntax.specs.declared.marks.Marks.{Marks}
+use Rattle.syntax.specs.Bytes.{capital, allowedRun}
+use Rattle.syntax.specs.Split.{split, characters}
 
 -- the elements of a segment's bytes
 abbrev pub elements : Marks → List ℕ → List (List ℕ)

@@ -5,15 +5,16 @@ ghost use lib.Dec.{ltb};
 ghost use lib.ListN.{length};
 ghost use Rattle.std.specs.Options.{mapped};
 ghost use Rattle.std.specs.shelf.Text.{sameBytes};
-ghost use Rattle.edifact.specs.Split.{characters as charactersIn};
-ghost use Rattle.edifact.specs.Cursors.{Takes, componentPart, componentsLeft, charactersLeft};
-use crate::characters::Characters;
-use crate::characters::CharactersIterator;
-use crate::characters::character_count;
-use crate::characters::same_characters;
-use crate::marks::Marks;
-use crate::pieces::Pieces;
-use crate::pieces::PiecesIterator;
+ghost use Rattle.syntax.specs.Split.{characters as charactersIn};
+ghost use Rattle.syntax.specs.Cursors.{Takes, charactersLeft};
+ghost use Rattle.edifact.specs.Cursors.{componentPart, componentsLeft};
+use syntax::characters::Characters;
+use syntax::characters::CharactersIterator;
+use syntax::characters::character_count;
+use syntax::characters::same_characters;
+use syntax::marks::Marks;
+use syntax::pieces::Pieces;
+use syntax::pieces::PiecesIterator;
 
 // A component of an element.
 #[derive(Clone, Copy, Drop)]

@@ -4,9 +4,9 @@ ghost use mathlib.Core.Bool.{true};
 ghost use Prim.Native.Nat.{_+_, _^_, _≤_, _<_};
 ghost use lib.ListN.{length};
 ghost use denote.Ref.{now};
-ghost use Rattle.edifact.specs.Marks.{lawful};
-use crate::fault::CutFault;
-use crate::marks::Marks;
+ghost use Rattle.syntax.specs.Marks.{lawful};
+use syntax::fault::CutFault;
+use syntax::marks::Marks;
 
 pub mod methods;
 

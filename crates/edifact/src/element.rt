@@ -5,14 +5,15 @@ ghost use lib.ListN.{length};
 ghost use Rattle.std.specs.Options.{mapped};
 ghost use Rattle.std.specs.declared.option.Option.the-variants.{Some};
 ghost use Rattle.edifact.specs.Segments.{components as componentsIn, componentIn};
-ghost use Rattle.edifact.specs.Cursors.{Takes, part, elementPart, componentPart, elementsLeft, componentsLeft};
+ghost use Rattle.syntax.specs.Cursors.{Takes};
+ghost use Rattle.edifact.specs.Cursors.{part, elementPart, componentPart, elementsLeft, componentsLeft};
 use crate::component::Component;
 use crate::component::Components;
-use crate::marks::Marks;
-use crate::pieces::Pieces;
-use crate::pieces::PiecesIterator;
-use crate::pieces::piece;
-use crate::pieces::piece_count;
+use syntax::marks::Marks;
+use syntax::pieces::Pieces;
+use syntax::pieces::PiecesIterator;
+use syntax::pieces::piece;
+use syntax::pieces::piece_count;
 
 // An element of a segment.
 #[derive(Clone, Copy, Drop)]

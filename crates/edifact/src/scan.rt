@@ -4,20 +4,20 @@ ghost use mathlib.Core.Bool.{false};
 ghost use Prim.Native.Nat.{_+_, _^_, _<_, _≤_};
 ghost use lib.ListN.{length as size};
 ghost use Rattle.std.specs.Vec.{made};
-ghost use Rattle.edifact.specs.Bytes.{breakRun};
-ghost use Rattle.edifact.specs.Split.{characters as charactersIn};
+ghost use Rattle.syntax.specs.Bytes.{breakRun};
+ghost use Rattle.syntax.specs.Split.{characters as charactersIn};
 ghost use Rattle.edifact.specs.Segments.{isTag, tagIn, tagOf};
 ghost use Rattle.edifact.specs.Scanning.{after, placed, endIn, segmentIn};
-use crate::bytes::is_allowed;
-use crate::bytes::is_line_break;
-use crate::bytes::is_mark;
-use crate::bytes::is_release;
-use crate::characters::Characters;
-use crate::characters::CharactersIterator;
-use crate::fault::CutFault;
-use crate::fault::Place;
-use crate::marks::Marks;
-use crate::pieces::first_piece;
+use syntax::bytes::is_allowed;
+use syntax::bytes::is_line_break;
+use syntax::bytes::is_mark;
+use syntax::bytes::is_release;
+use syntax::characters::Characters;
+use syntax::characters::CharactersIterator;
+use syntax::fault::CutFault;
+use syntax::fault::Place;
+use syntax::marks::Marks;
+use syntax::pieces::first_piece;
 
 // Length and tag of a segment.
 #[derive(Clone, Copy, Drop)]

@@ -9,10 +9,10 @@ ghost use Rattle.edifact.specs.Cursors.{part, elementPart, componentPart, elem
 use crate::component::Component;
 use crate::element::Element;
 use crate::element::Elements;
-use crate::marks::Marks;
-use crate::pieces::Pieces;
-use crate::pieces::piece;
-use crate::pieces::piece_count;
+use syntax::marks::Marks;
+use syntax::pieces::Pieces;
+use syntax::pieces::piece;
+use syntax::pieces::piece_count;
 
 // A segment of a text. Only the cutter makes one.
 #[derive(Clone, Copy, Drop)]

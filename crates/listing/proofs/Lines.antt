@@ -6,9 +6,10 @@ use native.Mathlib.Omega.{arith}
 use lib.ListN.{length}
 use Rattle.std.specs.declared.option.Option.{Option}
 use Rattle.std.specs.declared.option.Option.the-variants.{Some, None}
-use Rattle.edifact.specs.declared.marks.Marks.{Marks}
+use Rattle.syntax.specs.declared.marks.Marks.{Marks}
 use Rattle.edifact.specs.Segments.{othersOf}
-use Rattle.edifact.specs.Cursors.{Part, part, Takes}
+use Rattle.syntax.specs.Cursors.{Takes}
+use Rattle.edifact.specs.Cursors.{Part, part}
 use Rattle.listing.specs.Plain.{lines}
 
 -- the lines of parts that have the same marks

@@ -6,7 +6,7 @@ use native.Mathlib.Nat.{zero-add}
 use native.Mathlib.Omega.{arith}
 use lib.ListN.{length}
 use Rattle.std.specs.declared.option.Option.the-variants.{Some, None}
-use Rattle.edifact.specs.declared.fault.CutFault.{CutFault}
+use Rattle.syntax.specs.declared.fault.CutFault.{CutFault}
 use Rattle.edifact.specs.Cutting.{Cut, Cutting, push, ended, stopped, cut}
 use Rattle.edifact.proofs.Numbers.{Numbered, cut-numbered}
 use Rattle.listing.specs.Plain.{lines, segmentLines, lastLine, cutLines}

@@ -7,10 +7,10 @@ use lib.ListN.{length}
 use Rattle.std.specs.Written.{decimal}
 use Rattle.std.specs.declared.option.Option.{Option}
 use Rattle.std.specs.declared.option.Option.the-variants.{Some, None}
-use Rattle.edifact.specs.declared.fault.CutFault.{CutFault}
-use Rattle.edifact.specs.declared.fault.Refusal.{Refusal}
-use Rattle.edifact.specs.declared.marks.Marks.{Marks}
-use Rattle.edifact.specs.Faults.{refusalOf}
+use Rattle.syntax.specs.declared.fault.CutFault.{CutFault}
+use Rattle.syntax.specs.declared.fault.Refusal.{Refusal}
+use Rattle.syntax.specs.declared.marks.Marks.{Marks}
+use Rattle.syntax.specs.Faults.{refusalOf}
 use Rattle.edifact.specs.Segments.{elements, components, othersOf}
 use Rattle.edifact.specs.Cutting.{Cut, Cutting, cut}
 

@@ -2,17 +2,17 @@
 ghost use mathlib.Core.Path.{_≡_};
 ghost use Rattle.std.specs.Vec.{made};
 ghost use Rattle.edifact.specs.Cutting.{cut};
-use edifact::characters::CharactersIterator;
 use edifact::component::Component;
 use edifact::component::ComponentsIterator;
 use edifact::cutter::Cutter;
 use edifact::element::Element;
 use edifact::element::ElementsIterator;
-use edifact::fault::CutFault;
-use edifact::fault::Place;
 use edifact::segment::Segment;
 use std::alloc::AllocError;
 use std::alloc::Global;
+use syntax::characters::CharactersIterator;
+use syntax::fault::CutFault;
+use syntax::fault::Place;
 
 // The characters of a component.
 fn push_component(out: &mut Vec<u8>, component: &Component<'_>) -> Result<(), AllocError> {

@@ -6,17 +6,17 @@ ghost use Rattle.std.specs.Of.Vec.{vec-items};
 ghost use Rattle.std.specs.Vec.{made};
 ghost use Rattle.edifact.specs.Cursors.{elementPart, cutOf};
 ghost use Rattle.edifact.specs.Cutting.{cut};
-ghost use Rattle.edifact.specs.Faults.{refusalOf};
+ghost use Rattle.syntax.specs.Faults.{refusalOf};
 ghost use Rattle.edifact.specs.Segments.{elements as elementsIn, othersOf};
 ghost use Rattle.listing.specs.Plain.{field, componentLine, elementLines, lines, segmentLine, segmentLines, refusalLine, fileLine, listing};
 use edifact::component::ComponentsIterator;
 use edifact::cutter::Cutter;
 use edifact::element::Element;
 use edifact::element::ElementsIterator;
-use edifact::fault::CutFault;
 use edifact::segment::Segment;
 use std::alloc::AllocError;
 use std::alloc::Global;
+use syntax::fault::CutFault;
 
 // Bytes between two texts.
 fn push_line(out: &mut Vec<u8>, head: &str, bytes: &[u8], tail: &str) -> Result<(), AllocError>

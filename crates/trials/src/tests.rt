@@ -1,18 +1,25 @@
 // Tests over the public calls.
 use crate::edges::EDGES;
 use edifact::cutter::Cutter;
-use edifact::fault::CutFault;
-use edifact::fault::CutFaultDebug;
-use edifact::fault::CutFaultPartialEq;
-use edifact::fault::Place;
-use edifact::marks::DecimalMark;
-use edifact::marks::DecimalMarkDebug;
-use edifact::marks::DecimalMarkPartialEq;
+use listing::command::Format;
+use listing::command::FormatDebug;
+use listing::command::FormatPartialEq;
+use listing::command::Request;
 use listing::command::Word;
 use listing::command::WordDebug;
 use listing::command::WordPartialEq;
+use listing::command::parse;
 use listing::plain;
+use std::alloc::AllocError;
+use std::alloc::Global;
 use std::test::*;
+use syntax::fault::CutFault;
+use syntax::fault::CutFaultDebug;
+use syntax::fault::CutFaultPartialEq;
+use syntax::fault::Place;
+use syntax::marks::DecimalMark;
+use syntax::marks::DecimalMarkDebug;
+use syntax::marks::DecimalMarkPartialEq;
 
 // Each edge's listing ends in its line.
 #[test]
@@ -96,4 +103,35 @@ fn words_of_the_command_line() -> Result<(), Fail> {
     check_eq(Word::of("--plan"), Word::UnknownOption)?;
     check_eq(Word::of("advice.edi"), Word::File)?;
     check_eq(Word::of(""), Word::File)
+}
+
+// The request that words with a space between them make.
+fn asked(heap: Global, line: &str) -> Result<Request, AllocError> {
+    let mut words = Vec::new(heap);
+    for word in line.split_whitespace() {
+        words.push(String::from_str(heap, word)?)?;
+    }
+    parse(heap, words)
+}
+
+#[test]
+fn command_lines(rt: LibcRuntime) -> Result<(), Fail> {
+    let heap = rt.alloc();
+    match asked(heap, "cut a --plain - -- --help")? {
+        Request::Cut(format, files) => {
+            check_eq(format, Format::Plain)?;
+            check_eq(files.len(), 3)?;
+        }
+        _ => return Err(Fail::new("no cut")),
+    }
+    match asked(heap, "cut --plan a")? {
+        Request::Unknown(word) => check(word.as_str() == "--plan")?,
+        _ => return Err(Fail::new("no unknown option")),
+    }
+    match asked(heap, "read a")? {
+        Request::Unknown(word) => check(word.as_str() == "read")?,
+        _ => return Err(Fail::new("no unknown command")),
+    }
+    check(matches!(asked(heap, "cut --help")?, Request::Help))?;
+    check(matches!(asked(heap, "")?, Request::Nothing))
 }

@@ -5,19 +5,19 @@ ghost use mathlib.Core.List.{List};
 ghost use Prim.Native.Nat.{ℕ, _+_, _^_, _≤_, _<_};
 ghost use lib.ListN.{length as size};
 ghost use Rattle.std.specs.Options.{valueOr};
-ghost use Rattle.edifact.specs.Marks.{hasHeader, headerLength, marksOf, usual};
-ghost use Rattle.edifact.specs.Bytes.{breakRun};
+ghost use Rattle.syntax.specs.Marks.{hasHeader, headerLength, marksOf, usual};
+ghost use Rattle.syntax.specs.Bytes.{breakRun};
 ghost use Rattle.edifact.specs.Cutting.{cut};
 ghost use Rattle.edifact.specs.Laws.{JoinsBack, OnlyCut, CharactersSpelled};
 ghost use Rattle.edifact.specs.Cursors.{remaining, Tells, HandsOut};
 use crate::cutter::Cutter;
-use crate::fault::CutFault;
-use crate::header::has_header;
-use crate::header::read_header;
-use crate::marks::Marks;
 use crate::scan::break_count;
 use crate::scan::first_segment;
 use crate::segment::Segment;
+use syntax::fault::CutFault;
+use syntax::header::has_header;
+use syntax::header::read_header;
+use syntax::marks::Marks;
 
 // How many bytes the header has.
 fn header_length(text: &[u8]) -> usize

@@ -1,7 +1,7 @@
 use Prim.Native.Nat.{_-_, _≤_, _+_}
 use mathlib.Core.Path.{_≡_}
 use lib.ListN.{length, drop}
-use Rattle.edifact.specs.Bytes.{breakRun}
+use Rattle.syntax.specs.Bytes.{breakRun}
 use Rattle.edifact.proofs.scan.break_count.Given as given
 
 abbrev pub Inv-loop-i : given.InvT-loop-i

@@ -5,7 +5,8 @@ use native.Mathlib.Omega.{arith}
 use lib.ListN.{length}
 use Rattle.std.specs.Of.Vec.{vec-items}
 use Rattle.std.specs.Options.{mapped}
-use Rattle.edifact.specs.Cursors.{Part, part, Takes, elementPart, elementsLeft}
+use Rattle.syntax.specs.Cursors.{Takes}
+use Rattle.edifact.specs.Cursors.{Part, part, elementPart, elementsLeft}
 use Rattle.edifact.specs.Segments.{elements, othersOf}
 use Rattle.listing.specs.Plain.{elementLines}
 use Rattle.listing.proofs.Lines.{lines-more, parts-written, length-parts, length-others, step-others, left-none}

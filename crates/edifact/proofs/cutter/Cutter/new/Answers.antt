@@ -1,10 +1,11 @@
 use mathlib.Core.Path.{_≡_, refl, sym, ap, _∙_}
 use native.Mathlib.Omega.{arith}
 use Rattle.std.specs.Options.{valueOr}
-use Rattle.edifact.specs.Marks.{usual}
-use Rattle.edifact.proofs.Headers.{header-body, start-cut, start-stopped}
+use Rattle.syntax.specs.Marks.{usual}
+use Rattle.edifact.proofs.Beginnings.{start-cut, start-stopped}
+use Rattle.syntax.proofs.Headers.{header-body}
 use Rattle.edifact.proofs.JoinsBack.{joins-back}
-use Rattle.edifact.proofs.Lawfulness.{marks-lawful}
+use Rattle.syntax.proofs.Lawfulness.{marks-lawful}
 use Rattle.edifact.proofs.OnlyCut.{only-cut}
 use Rattle.edifact.proofs.Spelling.{characters-spelled}
 use Rattle.edifact.proofs.cutter.Cutter.new.Needs as need
