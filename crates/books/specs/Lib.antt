@@ -1,0 +1,4 @@
+pub mod Tables
+pub mod Notation
+pub mod Trial
+pub mod Recadv

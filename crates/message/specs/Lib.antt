@@ -1,0 +1,5 @@
+pub mod Rows
+pub mod RowTests
+pub mod Layouts
+pub mod Judging
+pub mod Messages
