@@ -1,6 +1,9 @@
 // The built-in book: RECADV.
 ghost use mathlib.Core.Path.{_≡_};
+ghost use mathlib.Core.Bool.{true};
+ghost use Rattle.message.specs.Following.{followersDiffer};
 ghost use Rattle.books.specs.Tables.{rowsOf, layoutsOf, identifierOf};
+ghost use Rattle.books.specs.RecadvExamples.{examplesFit};
 ghost use Rattle.books.specs.Recadv.{recadvRows, recadvLayouts, recadvIdentifier};
 use crate::tables::ComponentLine;
 use crate::tables::ElementLine;
@@ -637,6 +640,17 @@ fn tables() -> Tables<'static>
 // The receiving advice RECADV, EANCOM 2002, version 005, directory D.01B.
 #[derive(Clone, Copy, Drop)]
 pub struct Recadv;
+
+impl Recadv {
+    // The book. Of all rows that may come directly after one row, no two different ones have the same tag.
+    // The guideline's example of each row fits that row.
+    pub fn new() -> Recadv
+        ensures followers { λ _. ⌜ followersDiffer recadvRows ≡ true ⌝ }
+        ensures examples { λ _. ⌜ examplesFit ≡ true ⌝ }
+    {
+        Recadv
+    }
+}
 
 pub impl Diagram for Recadv as RecadvDiagram {
     ghost rows = { λ _. recadvRows };

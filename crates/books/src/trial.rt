@@ -1,5 +1,7 @@
 // The trial book.
 ghost use mathlib.Core.Path.{_≡_};
+ghost use mathlib.Core.Bool.{true};
+ghost use Rattle.message.specs.Following.{followersDiffer};
 ghost use Rattle.books.specs.Tables.{rowsOf, layoutsOf, identifierOf};
 ghost use Rattle.books.specs.Trial.{trialRows, trialLayouts, trialIdentifier};
 use crate::tables::ComponentLine;
@@ -113,6 +115,15 @@ fn tables() -> Tables<'static>
 // The trial book: a small message whose user segments have one required element each.
 #[derive(Clone, Copy, Drop)]
 pub struct TrialBook;
+
+impl TrialBook {
+    // The book. Of all rows that may come directly after one row, no two different ones have the same tag.
+    pub fn new() -> TrialBook
+        ensures { λ _. ⌜ followersDiffer trialRows ≡ true ⌝ }
+    {
+        TrialBook
+    }
+}
 
 pub impl Diagram for TrialBook as TrialBookDiagram {
     ghost rows = { λ _. trialRows };

@@ -1,2 +1,3 @@
 pub mod Trials
 pub mod RowTests
+pub mod RowExamples

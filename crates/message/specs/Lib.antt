@@ -1,5 +1,6 @@
 pub mod Rows
 pub mod RowTests
+pub mod Following
 pub mod Layouts
 pub mod Judging
 pub mod Messages
