@@ -1,5 +1,6 @@
 // What a row's layout asks of a segment's elements and components.
 ghost use mathlib.Core.Path.{_≡_};
+ghost use Rattle.message.specs.Faults.{numberOf, spotOf};
 ghost use Rattle.message.specs.Layouts.{statusOf};
 
 // What the characters of a component may be: letters and spaces, a number, or any.
@@ -59,6 +60,40 @@ pub enum SegmentFault {
     NotListed(Spot),
     BadHeader(Spot),
     BadTrailer(Spot),
+}
+
+impl SegmentFault {
+    // Its number among the refusals.
+    pub fn number(self) -> u8
+        ensures { λ r. ⌜ r ≡ numberOf self ⌝ }
+    {
+        match self {
+            SegmentFault::Beyond(_) => 8,
+            SegmentFault::Missing(_) => 9,
+            SegmentFault::Unused(_) => 10,
+            SegmentFault::WrongClass(_) => 11,
+            SegmentFault::WrongLength(_) => 12,
+            SegmentFault::NotListed(_) => 13,
+            SegmentFault::BadHeader(_) => 14,
+            SegmentFault::BadTrailer(_) => 15,
+        }
+    }
+
+    // The component that it is told at.
+    pub fn spot(self) -> Spot
+        ensures { λ r. ⌜ r ≡ spotOf self ⌝ }
+    {
+        match self {
+            SegmentFault::Beyond(spot)
+            | SegmentFault::Missing(spot)
+            | SegmentFault::Unused(spot)
+            | SegmentFault::WrongClass(spot)
+            | SegmentFault::WrongLength(spot)
+            | SegmentFault::NotListed(spot)
+            | SegmentFault::BadHeader(spot)
+            | SegmentFault::BadTrailer(spot) => spot,
+        }
+    }
 }
 
 // The status that a letter means, if it is one.
