@@ -19,7 +19,7 @@ use std::alloc::Global;
 use syntax::fault::CutFault;
 
 // Bytes between two texts.
-fn push_line(out: &mut Vec<u8>, head: &str, bytes: &[u8], tail: &str) -> Result<(), AllocError>
+pub fn push_line(out: &mut Vec<u8>, head: &str, bytes: &[u8], tail: &str) -> Result<(), AllocError>
     ensures { λ r. ⌜ made r (λ _. vec-items (now (out .exit)) ≡ vec-items (now (out .entry)) ++ (now (head .entry) ++ (now (bytes .entry) ++ now (tail .entry)))) ⌝ }
 {
     out.extend_from_slice(head.as_bytes())?;

@@ -1,10 +1,19 @@
-// The program: cuts texts and lists what it found.
+// The program: cuts texts and lists what it found, and lists the built-in books.
+use books::recadv::Recadv;
+use books::recadv::RecadvBook;
+use books::recadv::RecadvDiagram;
+use books::trial::TrialBook;
+use books::trial::TrialBookBook;
+use books::trial::TrialBookDiagram;
+use listing::command::Detail;
 use listing::command::Format;
 use listing::command::Request;
 use listing::command::USAGE;
+use listing::command::Which;
 use listing::command::parse;
 use listing::person;
 use listing::plain;
+use message::book::Book;
 use std::env;
 use std::error::AnyError;
 use std::fs;
@@ -67,6 +76,23 @@ fn list_all(rt: &LibcRuntime, format: Format, names: Vec<String>) -> Result<(), 
     }
 }
 
+// Lists one book.
+fn list_book<B: Book>(
+    rt: &LibcRuntime,
+    book: &B,
+    detail: Detail,
+    format: Format,
+) -> Result<(), AnyError> {
+    let heap = rt.alloc();
+    let mut out = Vec::new(heap);
+    match format {
+        Format::Plain => booklist::plain::push_book(heap, &mut out, book, detail)?,
+        Format::Person => booklist::person::push_book(heap, &mut out, book, detail)?,
+    }
+    rt.stdout().write_all(out.as_slice())?;
+    Ok(())
+}
+
 fn main(rt: LibcRuntime) -> Result<(), AnyError> {
     let mut words = Vec::new(rt.alloc());
     for word in env::args(&rt)?.skip(1) {
@@ -74,6 +100,8 @@ fn main(rt: LibcRuntime) -> Result<(), AnyError> {
     }
     match parse(rt.alloc(), words)? {
         Request::Cut(format, names) => list_all(&rt, format, names),
+        Request::Book(Which::Recadv, detail, format) => list_book(&rt, &Recadv, detail, format),
+        Request::Book(Which::Trial, detail, format) => list_book(&rt, &TrialBook, detail, format),
         Request::Help => {
             print!(rt, "{USAGE}")?;
             Ok(())

@@ -3,7 +3,14 @@ mod edges;
 #[cfg(test)]
 mod tests;
 
+use books::recadv::Recadv;
+use books::recadv::RecadvBook;
+use books::recadv::RecadvDiagram;
+use books::trial::TrialBook;
+use books::trial::TrialBookBook;
+use books::trial::TrialBookDiagram;
 use edges::EDGES;
+use listing::command::Detail;
 use listing::plain;
 use std::error::AnyError;
 use std::fs;
@@ -22,6 +29,8 @@ fn main(rt: LibcRuntime) -> Result<(), AnyError> {
     for edge in &EDGES {
         plain::push_text(heap, &mut out, edge.what, edge.text)?;
     }
+    booklist::plain::push_book(heap, &mut out, &TrialBook, Detail::Layouts)?;
+    booklist::plain::push_book(heap, &mut out, &Recadv, Detail::Layouts)?;
     rt.stdout().write_all(out.as_slice())?;
     Ok(())
 }

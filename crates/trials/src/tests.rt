@@ -1,10 +1,25 @@
 // Tests over the public calls.
 use crate::edges::EDGES;
+use books::recadv::Recadv;
+use books::recadv::RecadvBook;
+use books::recadv::RecadvDiagram;
+use books::trial::TrialBook;
+use books::trial::TrialBookBook;
+use books::trial::TrialBookDiagram;
 use edifact::cutter::Cutter;
+use listing::command::BookWord;
+use listing::command::BookWordDebug;
+use listing::command::BookWordPartialEq;
+use listing::command::Detail;
+use listing::command::DetailDebug;
+use listing::command::DetailPartialEq;
 use listing::command::Format;
 use listing::command::FormatDebug;
 use listing::command::FormatPartialEq;
 use listing::command::Request;
+use listing::command::Which;
+use listing::command::WhichDebug;
+use listing::command::WhichPartialEq;
 use listing::command::Word;
 use listing::command::WordDebug;
 use listing::command::WordPartialEq;
@@ -105,6 +120,18 @@ fn words_of_the_command_line() -> Result<(), Fail> {
     check_eq(Word::of(""), Word::File)
 }
 
+#[test]
+fn words_behind_book() -> Result<(), Fail> {
+    check_eq(BookWord::of("--trial"), BookWord::Trial)?;
+    check_eq(BookWord::of("--layouts"), BookWord::Layouts)?;
+    check_eq(BookWord::of("--plain"), BookWord::Plain)?;
+    check_eq(BookWord::of("--help"), BookWord::Help)?;
+    check_eq(BookWord::of("--"), BookWord::Unknown)?;
+    check_eq(BookWord::of("-"), BookWord::Unknown)?;
+    check_eq(BookWord::of("trial"), BookWord::Unknown)?;
+    check_eq(BookWord::of(""), BookWord::Unknown)
+}
+
 // The request that words with a space between them make.
 fn asked(heap: Global, line: &str) -> Result<Request, AllocError> {
     let mut words = Vec::new(heap);
@@ -134,4 +161,88 @@ fn command_lines(rt: LibcRuntime) -> Result<(), Fail> {
     }
     check(matches!(asked(heap, "cut --help")?, Request::Help))?;
     check(matches!(asked(heap, "")?, Request::Nothing))
+}
+
+// The words ask for this listing of a book.
+fn check_book(
+    heap: Global,
+    line: &str,
+    which: Which,
+    detail: Detail,
+    format: Format,
+) -> Result<(), Fail> {
+    match asked(heap, line)? {
+        Request::Book(told_which, told_detail, told_format) => {
+            check_eq(told_which, which).note(line)?;
+            check_eq(told_detail, detail).note(line)?;
+            check_eq(told_format, format).note(line)
+        }
+        _ => Err(Fail::new("no book")),
+    }
+}
+
+// The words are refused for one that isn't known.
+fn check_unknown(heap: Global, line: &str, unknown: &str) -> Result<(), Fail> {
+    match asked(heap, line)? {
+        Request::Unknown(word) => check(word.as_str() == unknown).note(line),
+        _ => Err(Fail::new("no unknown word")),
+    }
+}
+
+#[test]
+fn command_lines_of_book(rt: LibcRuntime) -> Result<(), Fail> {
+    let heap = rt.alloc();
+    check_book(heap, "book", Which::Recadv, Detail::Rows, Format::Person)?;
+    check_book(
+        heap,
+        "book --plain",
+        Which::Recadv,
+        Detail::Rows,
+        Format::Plain,
+    )?;
+    check_book(
+        heap,
+        "book --trial",
+        Which::Trial,
+        Detail::Rows,
+        Format::Person,
+    )?;
+    check_book(
+        heap,
+        "book --plain --layouts --trial --plain",
+        Which::Trial,
+        Detail::Layouts,
+        Format::Plain,
+    )?;
+    check_unknown(heap, "book advice.edi", "advice.edi")?;
+    check_unknown(heap, "book --trial -", "-")?;
+    check_unknown(heap, "book -- --plain", "--")?;
+    check_unknown(heap, "cut --layouts", "--layouts")?;
+    check_unknown(heap, "cut a --trial", "--trial")?;
+    check(matches!(asked(heap, "book --layouts --help")?, Request::Help))
+}
+
+// The listing of a book for a person, without and with its layouts.
+#[test]
+fn book_for_a_person(rt: LibcRuntime) -> Result<(), Fail> {
+    let heap = rt.alloc();
+    let mut rows = Vec::new(heap);
+    booklist::person::push_book(heap, &mut rows, &TrialBook, Detail::Rows)?;
+    check(
+        rows.as_slice().starts_with(
+            b"TSTMSG:D:01B:UN:EAN005\n     0  UNH, required, up to 1 time\n     1  BGM, required, up to 1 time\n     2  DTM, required, up to 2 times\n     3    RFF group, optional, up to 2 times\n",
+        ),
+    )?;
+    let mut layouts = Vec::new(heap);
+    booklist::person::push_book(heap, &mut layouts, &Recadv, Detail::Layouts)?;
+    check(
+        layouts.as_slice().starts_with(
+            b"RECADV:D:01B:UN:EAN005\n     0  UNH, required, up to 1 time\n     1  BGM, required, up to 1 time\n           1 R composite\n           1.1 an..3 R one of 632\n           1.2 an..17 N\n",
+        ),
+    )?;
+    check(
+        layouts
+            .as_slice()
+            .ends_with(b"\n    31  UNT, required, up to 1 time\n"),
+    )
 }

@@ -1,0 +1,3 @@
+// What the program prints of a book.
+pub mod person;
+pub mod plain;
