@@ -1,4 +1,6 @@
 // The syntax of EDIFACT text below its segments: bytes, marks, the header, pieces between marks, and characters.
+#![tactic(auto)]
+
 pub mod bytes;
 pub mod characters;
 pub mod fault;

@@ -8,8 +8,8 @@ use Rattle.std.proofs.iter.Next.{firm}
 pub returns-in-Some : goal.returns-in-Some
 returns-in-Some c =
     let rl = c.args.self.now.release in
-    let e : characters_left c.args.self.now ≡ c.in-Some.found.character ∷ characters rl false c.split-at.result.1.now
-    = characters-next rl c.args.self.now.rest.now c.in-Some.found (sym c.in-Some.ensures.value) ∙ ap (λ y. c.in-Some.found.character ∷ characters rl false y) (sym c.split-at.ensures.back) in
+    let e : characters_left c.args.self.now ≡ c.in-Some.found.character ∷ characters rl false c.split_at.result.1.now
+    = characters-next rl c.args.self.now.rest.now c.in-Some.found (sym c.in-Some.ensures.value) ∙ ap (λ y. c.in-Some.found.character ∷ characters rl false y) (sym c.split_at.ensures.back) in
     record { steps = e; goes = firm ((tt, tt, omega (arith, ap length e))) (λ h. search rules) }
 
 pub returns-in-None : goal.returns-in-None
