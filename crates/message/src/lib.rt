@@ -1,4 +1,6 @@
 // Branching diagrams and their messages: rows, segment groups, layouts, and the traits of whatever tells them.
+#![tactic(auto)]
+
 pub mod book;
 pub mod layout;
 pub mod open;

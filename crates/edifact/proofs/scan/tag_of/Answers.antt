@@ -2,8 +2,8 @@ use Rattle.std.proofs.Common.{arith, rules}
 use Rattle.edifact.proofs.Tags.{tag-none, tag-some}
 use Rattle.edifact.proofs.scan.tag_of.Goals as goal
 
-pub returns-then-first-piece-n : goal.returns-then-first-piece-n
-returns-then-first-piece-n c = search (rules, tag-none)
+pub returns-then-first_piece-n : goal.returns-then-first_piece-n
+returns-then-first_piece-n c = search (rules, tag-none)
 
-pub returns-else-first-piece-n : goal.returns-else-first-piece-n
-returns-else-first-piece-n c = search (rules, tag-some)
+pub returns-else-first_piece-n : goal.returns-else-first_piece-n
+returns-else-first_piece-n c = search (rules, tag-some)

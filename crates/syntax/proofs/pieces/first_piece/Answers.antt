@@ -9,5 +9,5 @@ loop-i-preserved c = grind (arith, nat_tests, reach_more)
 pub returns : goal.returns
 returns c = record { value = grind (arith, reach_done); within = omega arith }
 
-pub returns-then-is-mark : goal.returns-then-is-mark
-returns-then-is-mark c = record { value = grind (arith, nat_tests, reach_more); within = omega arith }
+pub returns-then-is_mark : goal.returns-then-is_mark
+returns-then-is_mark c = record { value = grind (arith, nat_tests, reach_more); within = omega arith }

@@ -8,17 +8,22 @@ use Rattle.edifact.proofs.OnlyCut.{only-cut}
 use Rattle.edifact.proofs.Spelling.{characters-spelled}
 use Rattle.edifact.proofs.cutter.Cutter.new.Goals as goal
 
-pub invariant-of-result-2 : goal.invariant-of-result-2
-invariant-of-result-2 c =
+pub invariant_of-result-2 : goal.invariant_of-result-2
+invariant_of-result-2 c =
     let h = c.in-Ok.ensures in
     let sum = header-body c.args.text.now c.in-Ok.head.1.now c.in-Ok.head.0 h.0 h.1 in
-    (marks-lawful c.args.text.now c.in-Ok.head.0 h.0, (c.leading-breaks-at.ensures.within, (omega arith, (omega (arith, sum, c.header-length.ensures), tt))))
+    record {
+      sound = marks-lawful c.args.text.now c.in-Ok.head.0 h.0;
+      within = c.leading_breaks-at.ensures.within;
+      counted = omega arith;
+      counting = omega (arith, sum, c.header_length.ensures);
+    }
 
 pub returns : goal.returns
 returns c =
     let h = c.in-Ok.ensures in
     record {
-      cuts = start-cut c.args.text.now c.in-Ok.head.1.now c.in-Ok.head.0 c.header-length.result c.leading-breaks-at.result h.0 h.1 c.header-length.ensures c.leading-breaks-at.ensures.value;
+      cuts = start-cut c.args.text.now c.in-Ok.head.1.now c.in-Ok.head.0 c.header_length.result c.leading_breaks-at.result h.0 h.1 c.header_length.ensures c.leading_breaks-at.ensures.value;
       joins = joins-back c.args.text.now;
       only = only-cut c.args.text.now;
       spelled = characters-spelled;
