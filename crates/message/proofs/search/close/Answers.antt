@@ -5,5 +5,5 @@ use Rattle.message.proofs.search.close.Goals as goal
 pub loop-under-preserved : goal.loop-under-preserved
 loop-under-preserved c = search (rules, closing_step)
 
-pub returns-then-not-ends-at : goal.returns-then-not-ends-at
-returns-then-not-ends-at c = search (rules, closing_stay)
+pub returns-then-not-ends_at : goal.returns-then-not-ends_at
+returns-then-not-ends_at c = search (rules, closing_stay)
