@@ -1,4 +1,6 @@
 // Books: the built-in ones.
+#![tactic(auto)]
+
 pub mod recadv;
 mod tables;
 pub mod trial;

@@ -1,4 +1,6 @@
 // What the program is asked for, and what it prints of a text that is cut.
+#![tactic(auto)]
+
 pub mod command;
 pub mod person;
 pub mod plain;

@@ -6,5 +6,5 @@ use Rattle.examiner.proofs.layout_check.layout_fault.Goals as goal
 
 pub returns : goal.returns
 returns g c =
-    layout_is (layout_of (slice_get (g.B.Book.layouts c.args.book.now) c.args.row)) c.args.decimal c.args.segment.now.marks c.marks.result c.args.segment.now.bytes.now c.bytes.result.now c.pass-rest.new.parts c.elements-fault.result
-    c.marks.ensures c.bytes.ensures (c.pass-rest.ensures.later ∙ c.of-parts.ensures.later) (c.pass-rest.ensures.decimal ∙ c.of-parts.ensures.decimal) c.elements-fault.ensures
+    layout_is (layout_of (slice_get (g.B.Book.layouts c.args.book.now) c.args.row)) c.args.decimal c.args.segment.now.marks c.marks.result c.args.segment.now.bytes.now c.bytes.result.now c.pass_rest.new.parts c.elements_fault.result
+    c.marks.ensures c.bytes.ensures (c.pass_rest.ensures.later ∙ c.of-parts.ensures.later) (c.pass_rest.ensures.decimal ∙ c.of-parts.ensures.decimal) c.elements_fault.ensures

@@ -10,7 +10,7 @@ loop-c-preserved c =
     let step = c.in-Some.ensures.steps in (
       omega (arith, c.loop-c.invariant.0, ap length step),
       lines_more (λ k p. component_line c.args.e k p.bytes) (c.loop-c.c + 1) (vec_items c.loop-c.out) _ _ (component_part c.in-Some.component) (components_left c.loop-c.left) (components_left c.next.new.self) step c.loop-c.invariant.1
-          (c.in-ok-push-component.ensures ∙ ap (λ x. vec_items c.loop-c.out ++ component_line c.args.e (c.loop-c.c + 1) x) c.bytes.ensures),
+          (c.in_ok-push_component.ensures ∙ ap (λ x. vec_items c.loop-c.out ++ component_line c.args.e (c.loop-c.c + 1) x) c.bytes.ensures),
     )
 
 pub returns-after-loop-c : goal.returns-after-loop-c
@@ -18,9 +18,9 @@ returns-after-loop-c c =
     let start = c.components-left.ensures in
     let long = length-parts c.args.element.now.marks (components c.args.element.now.marks c.args.element.now.bytes.now) (components_left c.components-left.result) start in
     parts-written (λ k p. component_line c.args.e k p.bytes) c.args.element.now.marks (c.loop-c.c + 1) 1 (vec_items c.loop-c.out) (vec_items c.args.out.now) (components_left c.loop-c.left) (components_left c.components-left.result) _
-    (left_none (components_left c.loop-c.left) (omega (arith, c.loop-c.invariant.0, long, c.component-count-c-end.ensures, c.loop-c-test.false))) c.loop-c.invariant.1 start
+    (left_none (components_left c.loop-c.left) (omega (arith, c.loop-c.invariant.0, long, c.component_count-c-end.ensures, c.loop-c-test.false))) c.loop-c.invariant.1 start
 
-pub returns-in-default : goal.returns-in-default
-returns-in-default c =
+pub returns-in_default : goal.returns-in_default
+returns-in_default c =
     parts-written (λ k p. component_line c.args.e k p.bytes) c.args.element.now.marks (c.loop-c.c + 1) 1 (vec_items c.loop-c.out) (vec_items c.args.out.now) (components_left c.loop-c.left) (components_left c.components-left.result) _
-    c.in-default.ensures.steps.0 c.loop-c.invariant.1 c.components-left.ensures
+    c.in_default.ensures.steps.0 c.loop-c.invariant.1 c.components-left.ensures

@@ -12,7 +12,7 @@ loop-e-preserved c =
     let step = c.in-Some.ensures.steps in (
       omega (arith, c.loop-e.invariant.0, ap length step),
       lines_more (λ k p. element_lines p.marks k p.bytes) c.loop-e.e (vec_items c.loop-e.out) _ _ (element_part c.in-Some.element) (elements_left c.loop-e.left) (elements_left c.next-in-loop-e.new.self) step c.loop-e.invariant.1
-          c.in-ok-push-element.ensures,
+          c.in_ok-push_element.ensures,
     )
 
 pub returns-after-loop-e : goal.returns-after-loop-e
@@ -24,13 +24,13 @@ returns-after-loop-e c =
     let long = length-parts m (others_of bs) (elements_left c.next.new.self) start in
     let fewer = length-others bs in
     parts-written (λ k p. element_lines p.marks k p.bytes) m c.loop-e.e 1 (vec_items c.loop-e.out) (vec_items c.args.out.now) (elements_left c.loop-e.left) (elements_left c.next.new.self) _
-    (left_none (elements_left c.loop-e.left) (omega (arith, c.loop-e.invariant.0, long, fewer, c.element-count-e-end.ensures, c.loop-e-test.false))) c.loop-e.invariant.1 start
+    (left_none (elements_left c.loop-e.left) (omega (arith, c.loop-e.invariant.0, long, fewer, c.element_count-e-end.ensures, c.loop-e-test.false))) c.loop-e.invariant.1 start
 
-pub returns-in-default : goal.returns-in-default
-returns-in-default c =
+pub returns-in_default : goal.returns-in_default
+returns-in_default c =
     let m = c.args.segment.now.marks in
     let bs : List (List ℕ) = elements m c.args.segment.now.bytes.now in
     let start : elements_left c.next.new.self ≡ map (part m) (others_of bs)
     = step-others m bs (option_map element_part c.next.result) (elements_left c.next.new.self) (subst (λ x. Takes x (option_map element_part c.next.result) (elements_left c.next.new.self)) c.elements-left.ensures c.next.ensures.steps) in
     parts-written (λ k p. element_lines p.marks k p.bytes) m c.loop-e.e 1 (vec_items c.loop-e.out) (vec_items c.args.out.now) (elements_left c.loop-e.left) (elements_left c.next.new.self) _
-    c.in-default.ensures.steps.0 c.loop-e.invariant.1 start
+    c.in_default.ensures.steps.0 c.loop-e.invariant.1 start

@@ -11,8 +11,8 @@ returns-then-spells g c =
     (code_told ls c.args.self.now.row c.args.element c.args.component c.loop-code.k c.in-Some.code.now c.in-Some.ensures)
     c.loop-code.invariant.1 c.spells.ensures c.if-spells.true
 
-pub overflow-add-k : goal.overflow-add-k
-overflow-add-k g c =
+pub overflow_add-k : goal.overflow_add-k
+overflow_add-k g c =
     let ls = g.B.Book.layouts c.args.self.now.book.now in
     let few = few-codes ls (g.met.B.Book.regular c.args.self.now.book.now) c.args.self.now.row c.args.element c.args.component in
     omega (arith, few, c.loop-code.invariant.0)
@@ -37,5 +37,5 @@ pub returns : goal.returns
 returns g c =
     let ls = g.B.Book.layouts c.args.self.now.book.now in
     listed-end (codes_at ls c.args.self.now.row c.args.element c.args.component) c.args.measure.now c.loop-code.k
-    (no_code_told ls c.args.self.now.row c.args.element c.args.component c.loop-code.k c.in-default.ensures)
+    (no_code_told ls c.args.self.now.row c.args.element c.args.component c.loop-code.k c.in_default.ensures)
     c.loop-code.invariant.1 c.loop-code.invariant.0

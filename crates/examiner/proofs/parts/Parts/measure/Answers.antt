@@ -7,9 +7,9 @@ pub returns : goal.returns
 returns c =
     let p = c.args.self.now in
     record {
-      measure = c.first-component-found.ensures.measure ∙ ap (measure_of p.decimal) (sym (first_component_is p c.first-component-found.result.length c.split-at.result.1.now c.if-not-self.false c.first-component-found.ensures.length c.split-at.ensures.back));
-      current = c.behind.ensures.current ∙ sym (other_components_are p c.first-component-found.result.length c.split-at.result.1.now c.if-not-self.false c.first-component-found.ensures.length c.split-at.ensures.back);
-      later = c.behind.ensures.later ∙ sym (later_elements_are p c.first-component-found.result.length c.split-at.result.1.now c.if-not-self.false c.first-component-found.ensures.length c.split-at.ensures.back);
+      measure = c.first_component-found.ensures.measure ∙ ap (measure_of p.decimal) (sym (first_component_is p c.first_component-found.result.length c.split_at.result.1.now c.if-not-self.false c.first_component-found.ensures.length c.split_at.ensures.back));
+      current = c.behind.ensures.current ∙ sym (other_components_are p c.first_component-found.result.length c.split_at.result.1.now c.if-not-self.false c.first_component-found.ensures.length c.split_at.ensures.back);
+      later = c.behind.ensures.later ∙ sym (later_elements_are p c.first_component-found.result.length c.split_at.result.1.now c.if-not-self.false c.first_component-found.ensures.length c.split_at.ensures.back);
       decimal = c.behind.ensures.decimal;
-      shorter = λ h. omega (arith, c.behind.ensures.shorter h, ap length c.split-at.ensures.back, length-drop c.first-component-found.result.length p.rest.now);
+      shorter = λ h. omega (arith, c.behind.ensures.shorter h, ap length c.split_at.ensures.back, length-drop c.first_component-found.result.length p.rest.now);
     }
