@@ -1,3 +1,5 @@
 // What the program prints of a book.
+#![tactic(auto)]
+
 pub mod person;
 pub mod plain;

@@ -1,4 +1,6 @@
 // The program: cuts texts and lists what it found, and lists the built-in books.
+#![tactic(auto)]
+
 use anyhow::anyhow;
 use books::recadv::Recadv;
 use books::trial::TrialBook;

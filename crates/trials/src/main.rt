@@ -1,4 +1,6 @@
 // Runs trials through the public calls. What it prints is held to the stored output.
+#![tactic(auto)]
+
 mod edges;
 #[cfg(test)]
 mod tests;

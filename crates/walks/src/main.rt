@@ -1,4 +1,6 @@
 // Walks by tags over the books' diagrams and over an unclear one. What it prints is held to the stored output.
+#![tactic(auto)]
+
 mod lists;
 mod unclear;
 

@@ -25,4 +25,4 @@ pub returns-in-Err : goal.returns-in-Err
 returns-in-Err c =
     listed-stopped (vec_items c.args.out.now) (file_line c.args.name.now) (vec_items c.push_name.new.out) (vec_items c.loop-next.out) (vec_items c.push_fault.new.out) c.loop-next.count
     (cut c.args.text.now) (remaining c.loop-next.cutter) c.in-Err.fault c.in_ok-push_name.ensures
-    c.in-Err.ensures.tells.0 c.loop-next.invariant c.in-ok-push-fault.ensures
+    c.in-Err.ensures.tells.0 c.loop-next.invariant c.in_ok-push_fault-in-Err.ensures
