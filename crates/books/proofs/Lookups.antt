@@ -1,12 +1,12 @@
 -- Looking a line up in flat tables.
-use Rattle.std.proofs.Common.{◌≡◌, ℕ, zero, suc, ◌<◌, ◌≤◌, min, List, [], ◌∷◌, map, length, take, drop, Some, None, Option, sym, refl, ap, ◌∙◌, ⊎_elim, arith}
+use Rattle.std.proofs.Common.{◌≡◌, ℕ, zero, suc, min, List, [], ◌∷◌, map, length, take, drop, Some, None, Option, sym, refl, ap, ◌∙◌, ⊎_elim, arith}
 use Rattle.std.proofs.lemmas.List.{take_all, drop_all}
 use Rattle.std.proofs.lemmas.Bool.{cases_lt}
 use Rattle.std.specs.List.{slice_get}
 use Rattle.std.specs.Option.{option_map}
 use Rattle.message.specs.declared.layout.ComponentRule.{ComponentRule}
 use Rattle.message.specs.declared.layout.ElementRule.{ElementRule}
-use Rattle.message.specs.Layouts.{Component, Element, Layout, element_head, component_head, element_in, component_in, code_in, element_at, component_at, code_at}
+use Rattle.message.specs.Layouts.{element_head, component_head, element_in, component_in, code_in, element_at, component_at, code_at}
 use Rattle.books.specs.declared.tables.Span.{Span}
 use Rattle.books.specs.declared.tables.ElementLine.{ElementLine}
 use Rattle.books.specs.declared.tables.ComponentLine.{ComponentLine}

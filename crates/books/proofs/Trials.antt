@@ -1,9 +1,8 @@
 -- Which rows may come after which in the trial book, computed.
 use Rattle.std.proofs.Common.{◌≡◌, ℕ, true, false, List, [], ◌∷◌, map, refl}
-use Rattle.message.specs.declared.row.Kind.TheVariants.{Trigger, Plain}
+use Rattle.message.specs.declared.row.Kind.TheVariants.{Plain}
 use Rattle.message.specs.declared.row.Need.TheVariants.{Optional, Required}
 use Rattle.message.specs.declared.row.Row.{Row}
-use Rattle.message.specs.RowTests.{rows_test}
 use Rattle.message.specs.Walk.{row_of}
 use Rattle.message.specs.Following.{Numbered, followers, followers_differ}
 use Rattle.message.specs.Successors.{successors, successors_differ}

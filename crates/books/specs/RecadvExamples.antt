@@ -1,12 +1,12 @@
 -- The example segments that the guideline prints for each row of RECADV, and that they fit.
-use Rattle.std.specs.Prelude.{ℕ, Bool, true, false, not, ◌&&◌, List, [], ◌∷◌, is_some, codes, Option}
+use Rattle.std.specs.Prelude.{ℕ, Bool, false, not, ◌&&◌, List, [], ◌∷◌, is_some, codes}
 use Prim.Native.String.{String}
 use Rattle.std.specs.Str.{bytes_eq}
 use Rattle.syntax.specs.declared.marks.DecimalMark.TheVariants.{Point}
-use Rattle.edifact.specs.Cutting.{Cut, Cutting, cut}
+use Rattle.edifact.specs.Cutting.{Cut, cut}
 use Rattle.message.specs.Layouts.{all}
 use Rattle.message.specs.Rows.{row_at}
-use Rattle.message.specs.Messages.{Meaning, Segment, segment_of, segment_fault}
+use Rattle.message.specs.Messages.{Meaning, segment_of, segment_fault}
 use Rattle.books.specs.Recadv.{recadv_rows, recadv_layouts, recadv_identifier}
 
 -- what RECADV means

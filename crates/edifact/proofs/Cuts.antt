@@ -1,6 +1,6 @@
 -- One step of the cutter over the text.
 use Rattle.std.proofs.Common.{◌≡◌, ℕ, ◌+◌, ◌-◌, ◌<◌, ◌≤◌, Bool, true, false, cond, ltb, List, [], ◌∷◌, length, take, drop, Some, None, Ok, Err, Option, Result, sym, refl, ap, ◌∙◌, subst, ⊎_elim, arith}
-use Rattle.std.proofs.lemmas.List.{length-take-le, take_all, take_rest, drop-drop, length-drop}
+use Rattle.std.proofs.lemmas.List.{length-take-le, take_all, take_rest, drop-drop}
 use Rattle.std.proofs.lemmas.Bool.{ne_eqb, lt-ltb, le-ltb, cases_lt}
 use Rattle.syntax.specs.declared.fault.CutFault.{CutFault}
 use Rattle.syntax.specs.declared.marks.Marks.{Marks}
@@ -17,7 +17,7 @@ use Rattle.edifact.proofs.Breaks.{break_run-first, split_skipped}
 use Rattle.syntax.proofs.Lawfulness.{lawful_distinct}
 use Rattle.edifact.proofs.PartsWhole.{parts_join, part-whole}
 use Rattle.edifact.proofs.Wholes.{EndedClosed, closed, no_mark, split-ended-closed}
-use Rattle.syntax.proofs.Splits.{split-some, split-next, split-last, reach-within}
+use Rattle.syntax.proofs.Splits.{split-some, split-next, split-last}
 
 pub cut-none : (m : Marks) (k at : ℕ) (bs : List ℕ) → length bs ≡ 0 → cut_from m k at bs ≡ ended
 cut-none m k at [] h = refl

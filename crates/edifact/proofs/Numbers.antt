@@ -1,5 +1,5 @@
 -- Segments are numbered from 1 in their order.
-use Rattle.std.proofs.Common.{◌≡◌, ℕ, ◌+◌, Bool, true, false, cond, eqb, List, [], ◌∷◌, length, drop, Some, None, Ok, Err, Option, Result, refl}
+use Rattle.std.proofs.Common.{◌≡◌, ℕ, ◌+◌, true, false, eqb, List, [], ◌∷◌, length, drop, Some, None, Ok, Err, Option, Result, refl}
 use Rattle.std.proofs.lemmas.Bool.{cond_both}
 use Rattle.syntax.specs.declared.fault.CutFault.{CutFault}
 use Rattle.syntax.specs.declared.marks.Marks.{Marks}
@@ -7,7 +7,7 @@ use Rattle.syntax.specs.Bytes.{break_run}
 use Rattle.syntax.specs.Marks.{header_length, marks_of, body}
 use Rattle.syntax.specs.Split.{split}
 use Rattle.edifact.specs.Segments.{first_of, others_of, judged}
-use Rattle.edifact.specs.Cutting.{Cut, Cutting, ended, pushed, cut_pieces, cut_from, leading_breaks, cut_with, cut}
+use Rattle.edifact.specs.Cutting.{Cut, Cutting, ended, pushed, cut_pieces, leading_breaks, cut_with, cut}
 
 -- the first has the number k, and each further one the next
 abbrev pub Numbered : ℕ → List Cut → Type 0

@@ -1,12 +1,12 @@
-use Rattle.std.proofs.Common.{◌≡◌, ℕ, suc, ◌+◌, ◌-◌, ◌<◌, ◌≤◌, Bool, true, false, cond, not, ◌&&◌, ◌||◌, eqb, ltb, leb, List, [], ◌∷◌, ◌++◌, length, get_or, take, drop, Some, None, Option, sym, refl, ap, ◌∙◌, subst, arith}
+use Rattle.std.proofs.Common.{◌≡◌, ℕ, suc, ◌+◌, ◌-◌, ◌<◌, ◌≤◌, Bool, true, false, cond, eqb, ltb, List, [], ◌∷◌, length, get_or, take, drop, None, sym, refl, ap, ◌∙◌, arith}
 use Rattle.std.proofs.lemmas.List.{at_drop_more, at_drop_all, take_all, length-take-le}
-use Rattle.std.proofs.lemmas.Bool.{cond_both, cond-true, cond-false, eq-eqb, ne_eqb, lt-ltb, le-ltb}
+use Rattle.std.proofs.lemmas.Bool.{cond_both, ne_eqb}
 use Rattle.std.proofs.lemmas.Bool.Decides.{nat_tests}
 use Rattle.syntax.specs.declared.marks.Marks.{Marks}
-use Rattle.syntax.specs.Split.{releases, split, reach, characters}
+use Rattle.syntax.specs.Split.{split, reach, characters}
 use Rattle.syntax.specs.Bytes.{line_break, break_run}
-use Rattle.edifact.specs.Segments.{elements, components, first_of, others_of, is_tag, tag_in, tag_of}
-use Rattle.syntax.proofs.Splits.{split-reach, split-some, split-next, split-last, reach-within}
+use Rattle.edifact.specs.Segments.{elements, components, first_of, tag_in, tag_of}
+use Rattle.syntax.proofs.Splits.{split-reach, split-some, split-next, split-last}
 
 pub first-split : (rl k : ℕ) (bs : List ℕ) → first_of (split rl k false bs) ≡ take (reach rl k false bs) bs
 first-split rl k bs = ap first_of (split-reach rl k false bs) ∙

@@ -2,10 +2,10 @@
 use Rattle.std.proofs.Common.{◌≡◌, ℕ, false, List, [], ◌∷◌, ◌++◌, map, length, Some, None, codes, Option, refl}
 use Rattle.syntax.specs.declared.fault.CutFault.{CutFault}
 use Rattle.syntax.specs.declared.fault.CutFault.TheVariants.{BadHeader, ForbiddenByte, UnendedSegment, BadTag}
-use Rattle.syntax.specs.Marks.{usual, marks_of}
+use Rattle.syntax.specs.Marks.{usual}
 use Rattle.syntax.specs.Split.{characters}
 use Rattle.edifact.specs.Segments.{parts_of, component_at}
-use Rattle.edifact.specs.Cutting.{Cut, Cutting, cut}
+use Rattle.edifact.specs.Cutting.{cut}
 
 -- number, first byte, length and tag of each segment
 abbrev places : List ℕ → List (ℕ × ℕ × ℕ × List ℕ)

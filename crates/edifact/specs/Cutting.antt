@@ -1,5 +1,5 @@
 -- The cut of a text: its segments up to the first ill-cut one, and that one's fault.
-use Rattle.std.specs.Prelude.{◌≡◌, ℕ, ◌+◌, Bool, true, false, cond, List, [], ◌∷◌, length, drop, Some, None, Ok, Err, Option, Result, ◌==◌}
+use Rattle.std.specs.Prelude.{ℕ, ◌+◌, true, false, cond, List, [], ◌∷◌, length, drop, Some, None, Ok, Err, Option, Result, ◌==◌}
 use Rattle.syntax.specs.declared.fault.CutFault.{CutFault}
 use Rattle.syntax.specs.declared.fault.CutFault.TheVariants.{BadHeader}
 use Rattle.syntax.specs.declared.marks.Marks.{Marks}

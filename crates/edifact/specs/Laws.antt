@@ -1,11 +1,11 @@
 -- How a text is put together from the parts of its segments, and the laws that tie its cut to that.
-use Rattle.std.specs.Prelude.{◌≡◌, ℕ, ◌+◌, Bool, true, false, cond, not, ◌&&◌, ◌||◌, List, [], ◌∷◌, ◌++◌, map, length, Some, None, Option, ◌==◌, ◌≢◌, nat_lt}
+use Rattle.std.specs.Prelude.{◌≡◌, ℕ, ◌+◌, Bool, true, false, not, ◌&&◌, ◌||◌, List, [], ◌∷◌, ◌++◌, map, length, Some, None, Option, ◌==◌, ◌≢◌, nat_lt}
 use Rattle.syntax.specs.declared.marks.Marks.{Marks}
 use Rattle.syntax.specs.Bytes.{allowed, line_break}
 use Rattle.syntax.specs.Marks.{lawful, has_header, header_length, marks_of, body}
 use Rattle.syntax.specs.Split.{releases, join, characters}
 use Rattle.edifact.specs.Segments.{tag_in, parts_of}
-use Rattle.edifact.specs.Cutting.{Cut, Cutting, cut}
+use Rattle.edifact.specs.Cutting.{Cut, cut}
 
 -- whether b is a mark that ends a component
 abbrev pub separates : Marks → ℕ → Bool

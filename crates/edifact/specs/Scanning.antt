@@ -1,5 +1,5 @@
 -- What the steps of the cutter answer, over the bytes that are left.
-use Rattle.std.specs.Prelude.{ℕ, ◌+◌, Bool, true, false, cond, List, [], ◌∷◌, length, take, Ok, Err, Result, nat_lt}
+use Rattle.std.specs.Prelude.{ℕ, ◌+◌, Bool, false, cond, List, length, take, Ok, Err, Result, nat_lt}
 use Rattle.syntax.specs.declared.fault.CutFault.{CutFault}
 use Rattle.syntax.specs.declared.fault.CutFault.TheVariants.{ForbiddenByte, UnendedSegment}
 use Rattle.syntax.specs.declared.fault.Place.{Place}

@@ -1,12 +1,10 @@
 -- The pass over an element's components.
-use Rattle.std.proofs.Common.{◌≡◌, ℕ, zero, suc, ◌+◌, ◌-◌, ◌<◌, ◌≤◌, Bool, true, false, cond, eqb, leb, List, [], ◌∷◌, map, length, drop, is_some, Some, None, Option, sym, refl, ap, ◌∙◌, subst, add-one, arith}
-use Rattle.std.proofs.lemmas.Bool.{cond-true, cond-false, ne_eqb, eq-eqb}
+use Rattle.std.proofs.Common.{◌≡◌, ℕ, suc, ◌+◌, ◌<◌, ◌≤◌, Bool, true, false, cond, eqb, List, [], ◌∷◌, map, length, drop, is_some, Some, None, Option, sym, refl, ap, ◌∙◌, add-one, arith}
+use Rattle.std.proofs.lemmas.Bool.{cond-false, ne_eqb}
 use Rattle.std.specs.List.{slice_get}
 use Rattle.std.specs.Option.{option_map}
 use Rattle.std.specs.Str.{bytes_eq}
 use Rattle.syntax.specs.declared.marks.DecimalMark.{DecimalMark}
-use Rattle.message.specs.declared.layout.Class.{Class}
-use Rattle.message.specs.declared.layout.Extent.{Extent}
 use Rattle.message.specs.declared.layout.Status.{Status}
 use Rattle.message.specs.declared.layout.Status.TheVariants.{Required, Unused, Optional}
 use Rattle.message.specs.declared.layout.Spot.{Spot}
@@ -22,7 +20,7 @@ use Rattle.syntax.specs.Split.{characters}
 use Rattle.edifact.specs.Segments.{parts_of}
 use Rattle.examiner.specs.declared.measure.Measure.{Measure}
 use Rattle.examiner.specs.declared.parts.Parts.{Parts}
-use Rattle.examiner.specs.Measuring.{class_in, size_in, spelled_in, measure_of}
+use Rattle.examiner.specs.Measuring.{size_in, measure_of}
 use Rattle.examiner.specs.Parts.{current, later, texts_of}
 use Rattle.examiner.specs.Checking.{codes_of, codes_at, among_in, listed_in, value_in, filled_by, or_first, beyond_at, part_fault, rules_of, rules_at, Passing, element_by}
 use Rattle.examiner.specs.Checking as checking

@@ -1,9 +1,8 @@
 -- What the layout rules give of each element, component and code that a book tells.
-use Rattle.std.proofs.Common.{◌≡◌, ℕ, zero, suc, ◌+◌, ◌-◌, ◌<◌, ◌≤◌, Bool, true, false, cond, ◌&&◌, eqb, leb, List, [], ◌∷◌, length, drop, is_some, Some, None, Option, sym, refl, ap, ◌∙◌, subst, arith}
+use Rattle.std.proofs.Common.{◌≡◌, ℕ, zero, suc, ◌<◌, ◌≤◌, Bool, true, ◌&&◌, leb, List, [], ◌∷◌, length, drop, is_some, Some, None, Option, sym, refl, ap, ◌∙◌, arith}
 use Rattle.std.proofs.lemmas.Bool.{and_parts, leb-true}
 use Rattle.std.specs.List.{slice_get}
-use Rattle.std.specs.Option.{option_map}
-use Rattle.message.specs.Layouts.{Component, Element, Layout, all, status_of, of_class, size, within, short_word, letter_or_digit, code_rule, extent_rule, component_rule, fillable, element_rule, layout_rule, element_in, component_in, code_in, element_at, component_at, code_at}
+use Rattle.message.specs.Layouts.{Component, Element, Layout, all, status_of, of_class, size, within, short_word, letter_or_digit, code_rule, extent_rule, component_rule, fillable, element_rule, layout_rule, element_in, component_in, element_at, component_at}
 use Rattle.syntax.specs.declared.marks.DecimalMark.TheVariants.{Point}
 use Rattle.examiner.specs.Checking.{codes_of, codes_at}
 

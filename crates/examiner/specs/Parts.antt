@@ -1,5 +1,5 @@
 -- A segment's components one after the other, as one pass over its bytes meets them.
-use Rattle.std.specs.Prelude.{◌≡◌, ℕ, Bool, true, false, cond, List, [], ◌∷◌, map, length, drop, ◌==◌, slice_index}
+use Rattle.std.specs.Prelude.{ℕ, false, cond, List, [], map, length, drop, ◌==◌, slice_index}
 use Rattle.syntax.specs.declared.marks.Marks.{Marks}
 use Rattle.syntax.specs.Split.{characters}
 use Rattle.edifact.specs.Segments.{parts_of}

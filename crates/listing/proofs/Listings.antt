@@ -1,5 +1,5 @@
 -- The listing of a text while it is cut.
-use Rattle.std.proofs.Common.{◌≡◌, ℕ, suc, ◌+◌, List, [], ◌∷◌, ◌++◌, length, Some, None, sym, refl, ap, ◌∙◌, subst, append_assoc, append-nil, zero-add, arith}
+use Rattle.std.proofs.Common.{◌≡◌, ℕ, ◌+◌, List, [], ◌∷◌, ◌++◌, length, Some, None, sym, refl, ap, ◌∙◌, subst, append_assoc, append-nil, zero-add, arith}
 use Rattle.syntax.specs.declared.fault.CutFault.{CutFault}
 use Rattle.edifact.specs.Cutting.{Cut, Cutting, push, ended, stopped, cut}
 use Rattle.edifact.proofs.Numbers.{Numbered, cut-numbered}

@@ -1,5 +1,5 @@
 -- The plain listing of a text: lines of fields with a tab between them.
-use Rattle.std.specs.Prelude.{◌≡◌, ℕ, ◌+◌, List, [], ◌∷◌, ◌++◌, length, Some, None, codes, decimal, Option}
+use Rattle.std.specs.Prelude.{ℕ, ◌+◌, List, [], ◌∷◌, ◌++◌, length, Some, None, codes, decimal, Option}
 use Rattle.syntax.specs.declared.fault.CutFault.{CutFault}
 use Rattle.syntax.specs.declared.fault.Refusal.{Refusal}
 use Rattle.syntax.specs.declared.marks.Marks.{Marks}

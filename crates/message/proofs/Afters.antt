@@ -1,15 +1,11 @@
 -- What completes a message from within: open rows before row j, and what is still to come of each.
-use Rattle.std.proofs.Common.{◌≡◌, ℕ, zero, suc, ◌+◌, ◌-◌, ◌<◌, ◌≤◌, ◌⊎◌, List, [], ◌∷◌, ◌++◌, length, get_or, sym, refl, ap, ◌∙◌, subst, inl, inr, ⊎_elim, add-one, arith}
-use native.Mathlib.Decide.{dec_le, dec_lt, ℕ_discrete}
-use Rattle.message.specs.declared.row.Kind.{Kind}
-use Rattle.message.specs.declared.row.Kind.TheVariants.{Trigger, Plain}
-use Rattle.message.specs.declared.row.Need.{Need}
-use Rattle.message.specs.declared.row.Need.TheVariants.{Optional, Required}
+use Rattle.std.proofs.Common.{◌≡◌, ℕ, zero, suc, ◌+◌, ◌-◌, ◌<◌, ◌≤◌, ◌⊎◌, List, [], ◌∷◌, sym, refl, ap, ◌∙◌, inl, inr, add-one, arith}
+use native.Mathlib.Decide.{dec_lt}
 use Rattle.message.specs.declared.row.Row.{Row}
 use Rattle.message.specs.declared.open.Open.{Open}
-use Rattle.message.specs.Rows.{Seat, ◌#◌, row_at, past_last, RowMessage, RowRules}
-use Rattle.message.specs.Walk.{depth, depth_of, within, begun, repeated, seat_of}
-use Rattle.message.proofs.Levels.{limit, Omissible, depth_at, Level, Further, over, inner, absent, present, stop, again, depth-past}
+use Rattle.message.specs.Rows.{Seat, ◌#◌, row_at}
+use Rattle.message.specs.Walk.{depth, within, begun, repeated}
+use Rattle.message.proofs.Levels.{limit, Omissible, depth_at, Level, Further, over, inner, absent, present, stop, again}
 
 module _ (rows : List Row) where
   -- Tails j gs w: w is what the open rows gs, each at the end of an occurrence before row j, have still to come

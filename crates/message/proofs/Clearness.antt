@@ -1,7 +1,7 @@
 -- A book is clear where its diagram is: a placement is a message of rows.
-use Rattle.std.proofs.Common.{ℕ, List}
+use Rattle.std.proofs.Common.{ℕ}
 use Rattle.message.specs.Rows.{RowFollows, ClearRows}
-use Rattle.message.specs.Messages.{Meaning, Placed, CanFollow, Clear}
+use Rattle.message.specs.Messages.{Meaning, CanFollow, Clear}
 
 follows_by_rows : (book : Meaning) (p q : ℕ) → CanFollow book p q → RowFollows book.rows p q
 follows_by_rows book p q (d, ss, u, m, n, v, placed) = (u, m, n, v, placed.rows)

@@ -1,16 +1,16 @@
 -- From open rows a message can be completed, at most one of each row that is left; with nothing only at the last row.
-use Rattle.std.proofs.Common.{◌≡◌, ℕ, zero, suc, ◌+◌, ◌-◌, ◌<◌, ◌≤◌, ◌⊎◌, List, [], ◌∷◌, ◌++◌, length, get_or, sym, refl, ap, ◌∙◌, subst, inl, inr, ⊎_elim, arith}
-use native.Mathlib.Decide.{dec_le, dec_lt, ℕ_discrete}
+use Rattle.std.proofs.Common.{◌≡◌, ℕ, zero, suc, ◌+◌, ◌-◌, ◌<◌, ◌≤◌, ◌⊎◌, List, [], ◌∷◌, length, sym, refl, ap, ◌∙◌, inl, inr, ⊎_elim, arith}
+use native.Mathlib.Decide.{dec_le, dec_lt}
 use Rattle.message.specs.declared.row.Kind.{Kind}
 use Rattle.message.specs.declared.row.Kind.TheVariants.{Trigger, Plain}
 use Rattle.message.specs.declared.row.Need.{Need}
 use Rattle.message.specs.declared.row.Need.TheVariants.{Optional, Required}
 use Rattle.message.specs.declared.row.Row.{Row}
 use Rattle.message.specs.declared.open.Open.{Open}
-use Rattle.message.specs.Rows.{Seat, ◌#◌, row_at, past_last, RowMessage, RowRules}
-use Rattle.message.specs.Walk.{depth, within, begun, repeated}
-use Rattle.message.proofs.Levels.{kind, level, limit, Omissible, depth_at, Level, over, kind_cases, depth-plain, depth_trigger, depth-past, past, message_level, level_message}
-use Rattle.message.proofs.Afters.{Tails, whole, After, after, Sound, Nested, bare, sound, under, depth_of_lem, nested-on, nested-under, nested-begun, pass-inner, pass-absent, come_first, leave, skip-inner, Begins, begin_or_pass, Repeats, repeat_or_leave}
+use Rattle.message.specs.Rows.{Seat, ◌#◌, row_at, RowRules}
+use Rattle.message.specs.Walk.{depth, within, begun}
+use Rattle.message.proofs.Levels.{kind, level, limit, Omissible, depth_at, Level, over, kind_cases, depth-plain, depth_trigger, depth-past, past}
+use Rattle.message.proofs.Afters.{Tails, whole, After, after, Sound, Nested, bare, sound, depth_of_lem, nested-on, nested-under, nested-begun, pass-inner, pass-absent, come_first, leave, skip-inner, Begins, begin_or_pass, Repeats, repeat_or_leave}
 
 module _ (rows : List Row) (K : RowRules rows) where
   pub depth_in : (j : ℕ) → j < length rows → 1 ≤ depth_at rows j

@@ -1,5 +1,5 @@
 -- A row can follow another exactly where the walk finds it with each open row come once; so the computed test says exactly whether a diagram is clear.
-use Rattle.std.proofs.Common.{◌≡◌, ℕ, zero, suc, ◌+◌, ◌-◌, ◌<◌, ◌≤◌, Bool, true, false, cond, not, ◌&&◌, ◌||◌, eqb, leb, ◌⊎◌, ◌↔◌, List, [], ◌∷◌, ◌++◌, length, get_or, drop, sym, refl, ap, ◌∙◌, subst, inl, inr, ⊎_elim, append_assoc, append-nil, add-zero, zero-add, add-one, arith}
+use Rattle.std.proofs.Common.{◌≡◌, ℕ, zero, suc, ◌+◌, ◌<◌, ◌≤◌, Bool, true, false, cond, not, ◌&&◌, eqb, leb, ◌⊎◌, ◌↔◌, List, [], ◌∷◌, ◌++◌, length, get_or, drop, sym, refl, ap, ◌∙◌, subst, inl, inr, add-zero, zero-add, arith}
 use mathlib.Core.List.Memᴰ
 use mathlib.Core.List.{Memᴰ}
 use native.Mathlib.Decide.{dec_le, dec_lt, ℕ_discrete}
@@ -7,19 +7,18 @@ use lib.ListN.{get_or-eq_default}
 use Rattle.std.proofs.lemmas.Slice.Eq.{bytes_eq-Decides}
 use Rattle.std.proofs.lemmas.Bool.{and_parts, and_from, eqb-true, eq-eqb, leb-true, le-leb, or_cases, or_left, or_right, not-true, not_from_false, cases_Bool, both_ways}
 use Rattle.std.specs.Str.{bytes_eq}
-use Rattle.message.specs.declared.row.Need.{Need}
-use Rattle.message.specs.declared.row.Need.TheVariants.{Optional, Required}
+use Rattle.message.specs.declared.row.Need.TheVariants.{Required}
 use Rattle.message.specs.declared.row.Row.{Row}
 use Rattle.message.specs.declared.open.Open.{Open}
-use Rattle.message.specs.Rows.{Seat, ◌#◌, row_at, RowMessage, RowsBegin, RowFollows, ClearRows, RowRules, tags_of}
-use Rattle.message.specs.Walk.{depth, within, begun, repeated, ends_at, still_open, ahead, position, next_states, row_of, seat_of, Stands, start, moved, MayCome}
+use Rattle.message.specs.Rows.{Seat, ◌#◌, row_at, RowMessage, RowFollows, ClearRows, RowRules, tags_of}
+use Rattle.message.specs.Walk.{depth, within, begun, repeated, ends_at, still_open, ahead, position, row_of, seat_of, Stands, start, moved, MayCome}
 use Rattle.message.specs.Successors.{successors_from, successors, tag_of, differ, successor_tags_differ, successors_differ}
 use Rattle.message.specs.Layouts.{all}
-use Rattle.message.proofs.Levels.{limit, Omissible, depth_at, depth-past, depth-plain}
+use Rattle.message.proofs.Levels.{limit, Omissible, depth_at, depth-plain}
 use Rattle.message.proofs.Afters.{After, Sound, Nested, bare, on, sound, under, depth_is, depth_of_lem, nested-on, nested-under, nested-begun, pass-inner, pass-absent, come_first, leave}
 use Rattle.message.proofs.Completions.{depth_in, completed, number_in}
-use Rattle.message.proofs.Nexts.{Ahead, again, end, first, pass, skip, found, finds, row_here, rows_from, seat_at, ahead-nested, ahead-back, comes, when_ends, when_open, ends_when, open_when}
-use Rattle.message.proofs.Standings.{step, stands-nested, stands_after, begins-found, found-begins, reached, push, after_message, message_after, row_of_state, one_occurrence, ahead-some}
+use Rattle.message.proofs.Nexts.{Ahead, again, end, first, pass, skip, found, finds, rows_from, seat_at, ahead-nested, ahead-back, comes, when_ends, when_open, ends_when, open_when}
+use Rattle.message.proofs.Standings.{stands-nested, stands_after, begins-found, reached, push, after_message, message_after, one_occurrence, ahead-some}
 
 -- the same open rows, come no more often
 pub data Lighter : List Open → List Open → Type 0 where

@@ -1,5 +1,5 @@
 -- Runs by level and kind, and by depth alone, are one. A row of depth d is a part of its surroundings; a deeper one stands inside a part that is passed, a shallower one ends the surroundings.
-use Rattle.std.proofs.Common.{◌≡◌, ℕ, zero, suc, ◌+◌, ◌-◌, ◌<◌, ◌≤◌, ◌⊎◌, List, [], ◌∷◌, length, get_or, sym, refl, ap, ◌∙◌, subst, inl, inr, ⊎_elim, arith}
+use Rattle.std.proofs.Common.{◌≡◌, ℕ, zero, suc, ◌+◌, ◌-◌, ◌<◌, ◌≤◌, ◌⊎◌, List, [], ◌∷◌, length, refl, ap, ◌∙◌, inl, inr, ⊎_elim, arith}
 use native.Mathlib.Decide.{dec_le, dec_lt}
 use lib.ListN.{get_or-eq_default}
 use Rattle.message.specs.declared.row.Kind.{Kind}
@@ -8,7 +8,7 @@ use Rattle.message.specs.declared.row.Need.{Need}
 use Rattle.message.specs.declared.row.Need.TheVariants.{Optional, Required}
 use Rattle.message.specs.declared.row.Row.{Row}
 use Rattle.message.specs.Rows.{Seat, ◌#◌, row_at, past_last, Times, Outside, GroupEnd, PlainRun, Runs, GroupRun, none, one, end, plain, group, RowMessage, RowRules}
-use Rattle.message.specs.Walk.{depth, depth_of}
+use Rattle.message.specs.Walk.{depth}
 
 abbrev pub kind : List Row → ℕ → Kind
 kind rows j = (row_at rows j).kind

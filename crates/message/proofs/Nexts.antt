@@ -1,9 +1,9 @@
 -- The pass over the rows behind the last finds exactly the rows that can come next.
-use Rattle.std.proofs.Common.{◌≡◌, ℕ, zero, suc, ◌+◌, ◌-◌, ◌<◌, ◌≤◌, Bool, true, false, cond, not, ltb, leb, ◌⊎◌, List, [], ◌∷◌, ◌++◌, length, get_or, drop, sym, refl, ap, ◌∙◌, subst, inl, inr, ⊎_elim, add-one, arith}
+use Rattle.std.proofs.Common.{◌≡◌, ℕ, zero, suc, ◌+◌, ◌<◌, ◌≤◌, Bool, true, false, cond, not, ltb, leb, ◌⊎◌, List, [], ◌∷◌, ◌++◌, length, drop, sym, refl, ap, ◌∙◌, subst, inl, inr, ⊎_elim, add-one, arith}
 use mathlib.Core.List.{Memᴰ}
-use native.Mathlib.Decide.{dec_le, dec_lt, ℕ_discrete}
+use native.Mathlib.Decide.{dec_le, dec_lt}
 use Rattle.std.proofs.lemmas.List.{drop_all, drop_more}
-use Rattle.std.proofs.lemmas.Bool.{ltb-true, ltb-false, lt-ltb, le-ltb, leb-true, leb-false, le-leb, not-true, not-false}
+use Rattle.std.proofs.lemmas.Bool.{ltb-true, ltb-false, lt-ltb, le-ltb, leb-true, le-leb, not-true, not-false}
 use Rattle.message.specs.declared.row.Need.{Need}
 use Rattle.message.specs.declared.row.Need.TheVariants.{Optional, Required}
 use Rattle.message.specs.declared.row.Row.{Row}
@@ -12,7 +12,7 @@ use Rattle.message.specs.Rows.{Seat, ◌#◌, row_at, past_last, RowRules}
 use Rattle.message.specs.RowTests.{is_required}
 use Rattle.message.specs.Walk.{depth, within, begun, may_repeat, repeated, with_if, ends_at, still_open, come_again, ahead, position, row_of, seat_of}
 use Rattle.message.proofs.Levels.{limit, Omissible, depth_at}
-use Rattle.message.proofs.Afters.{After, Sound, Nested, bare, sound, under, depth_is, nested-on, nested-under, nested-begun, nested-repeated, pass-inner, pass-absent, come_first, come_again_lem, leave, skip-inner, Begins, begin_or_pass, Repeats, repeat_or_leave}
+use Rattle.message.proofs.Afters.{After, Nested, bare, sound, under, depth_is, nested-on, nested-under, nested-begun, nested-repeated, pass-inner, pass-absent, come_first, come_again_lem, leave, skip-inner, Begins, begin_or_pass, Repeats, repeat_or_leave}
 use Rattle.message.proofs.Completions.{depth_in, past_end}
 
 -- The pass in two steps

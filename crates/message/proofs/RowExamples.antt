@@ -1,11 +1,9 @@
 -- Messages of rows, built from the definition.
 use Rattle.std.proofs.Common.{◌≡◌, ℕ, ◌≤◌, List, [], ◌∷◌, codes, sym, refl, ◌∙◌, subst, inl, inr, ⊎_elim, arith}
-use Rattle.message.specs.declared.row.Kind.{Kind}
 use Rattle.message.specs.declared.row.Kind.TheVariants.{Trigger, Plain}
-use Rattle.message.specs.declared.row.Need.{Need}
 use Rattle.message.specs.declared.row.Need.TheVariants.{Optional, Required}
 use Rattle.message.specs.declared.row.Row.{Row}
-use Rattle.message.specs.Rows.{Seat, ◌#◌, row_at, Times, Outside, GroupEnd, PlainRun, Runs, GroupRun, RowMessage}
+use Rattle.message.specs.Rows.{◌#◌, row_at, Times, Outside, GroupEnd, PlainRun, Runs, GroupRun, RowMessage}
 
 -- a date required in an optional reference group, a party group that ends before the trailer, and a row that can't occur
 abbrev rows : List Row

@@ -1,16 +1,15 @@
 -- Where a walk stands: what completes a message from there is what completes the rows that have come.
-use Rattle.std.proofs.Common.{◌≡◌, ℕ, zero, suc, ◌+◌, ◌-◌, ◌<◌, ◌≤◌, Bool, true, false, cond, ltb, ◌⊎◌, List, [], ◌∷◌, ◌++◌, length, drop, Some, None, Option, sym, refl, ap, ◌∙◌, subst, inl, inr, ⊎_elim, append_assoc, append-nil, arith}
+use Rattle.std.proofs.Common.{◌≡◌, ℕ, ◌≤◌, Bool, true, false, cond, ltb, ◌⊎◌, List, [], ◌∷◌, ◌++◌, length, drop, Some, None, Option, sym, refl, ap, ◌∙◌, subst, inl, inr, append_assoc, append-nil, arith}
 use mathlib.Core.List.Memᴰ
 use mathlib.Core.List.{Memᴰ}
 use Rattle.std.proofs.lemmas.Slice.Eq.{bytes_eq-Decides}
 use Rattle.std.proofs.lemmas.Bool.{ltb-true, ltb-false}
-use Rattle.std.specs.Str.{bytes_eq}
 use Rattle.message.specs.declared.row.Row.{Row}
 use Rattle.message.specs.declared.open.Open.{Open}
 use Rattle.message.specs.Rows.{Seat, ◌#◌, row_at, RowMessage, RowsBegin, RowRules}
-use Rattle.message.specs.Walk.{within, position, next_states, has_tag, of_tag, row_of, lower, lowest, next, seat_of, Stands, start, moved, MayCome, ComesNext, Answered}
+use Rattle.message.specs.Walk.{position, next_states, has_tag, of_tag, row_of, lower, lowest, next, seat_of, Stands, start, moved, MayCome, Answered}
 use Rattle.message.proofs.Levels.{message_level, level_message}
-use Rattle.message.proofs.Afters.{Tails, whole, After, after, Nested, bare, sound}
+use Rattle.message.proofs.Afters.{whole, After, after, Nested, bare, sound}
 use Rattle.message.proofs.Completions.{completed, ended, only-ended, number_in}
 use Rattle.message.proofs.Nexts.{Ahead, again, end, first, pass, skip, found, finds, seat_at, ahead-nested, ahead-back, comes, ahead-single}
 

@@ -1,15 +1,13 @@
 -- Worked examples of the definitions, computed.
-use Rattle.std.proofs.Common.{◌≡◌, ℕ, true, false, List, [], ◌∷◌, Some, None, codes, Option, refl}
+use Rattle.std.proofs.Common.{◌≡◌, ℕ, true, false, List, [], ◌∷◌, Some, None, codes, refl}
 use Rattle.syntax.specs.declared.marks.DecimalMark.TheVariants.{Point, Comma}
 use Rattle.syntax.specs.Marks.{usual}
-use Rattle.edifact.specs.Cutting.{Cut}
-use Rattle.message.specs.declared.layout.Class.TheVariants.{Alphabetic, Numeric, Alphanumeric}
+use Rattle.message.specs.declared.layout.Class.TheVariants.{Numeric, Alphanumeric}
 use Rattle.message.specs.declared.layout.Extent.TheVariants.{Exactly, AtMost}
-use Rattle.message.specs.declared.layout.SegmentFault.{SegmentFault}
 use Rattle.message.specs.declared.layout.SegmentFault.TheVariants.{Beyond, Missing, Unused, WrongClass, WrongLength, NotListed, BadHeader, BadTrailer}
-use Rattle.message.specs.Layouts.{Component, Element, Layout, number, digit_count}
+use Rattle.message.specs.Layouts.{Component, Layout, number, digit_count}
 use Rattle.message.specs.Judging.{spot, layout_fault, header_fault, trailer_fault}
-use Rattle.message.specs.Messages.{Segment, segment_of}
+use Rattle.message.specs.Messages.{segment_of}
 
 -- class n: one optional minus, digits, at most one decimal mark between digits
 minus : number Point (codes "-12.5") ≡ true

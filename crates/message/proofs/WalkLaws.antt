@@ -1,12 +1,9 @@
 -- The laws of the walk.
-use Rattle.std.proofs.Common.{◌≡◌, ℕ, List, [], ◌∷◌, ◌++◌, length, sym, refl, ap, ◌∙◌, subst, append_assoc, append-nil}
-use mathlib.Core.List.{Memᴰ}
+use Rattle.std.proofs.Common.{List, [], ◌∷◌, ◌++◌, subst, append_assoc, append-nil}
 use Rattle.message.specs.declared.row.Row.{Row}
-use Rattle.message.specs.declared.open.Open.{Open}
 use Rattle.message.specs.Rows.{Seat, ◌#◌, RowMessage, RowsBegin, RowRules}
-use Rattle.message.specs.Walk.{seat_of, Stands, MayCome}
 use Rattle.message.specs.WalkLaws.{WalkLaws}
-use Rattle.message.proofs.Standings.{push, found-begins, begins-found, one_occurrence, reached, message_at_end, end_message, stands-completed}
+use Rattle.message.proofs.Standings.{found-begins, begins-found, one_occurrence, reached, message_at_end, end_message, stands-completed}
 use Rattle.message.proofs.Follows.{followers_exact, test_clear, clear_test, one_placement}
 
 module _ (rows : List Row) where

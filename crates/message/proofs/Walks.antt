@@ -1,17 +1,17 @@
 -- What the calls of a walk rest on.
-use Rattle.std.proofs.Common.{◌≡◌, ℕ, zero, suc, ◌+◌, ◌<◌, ◌≤◌, Bool, true, false, cond, eqb, ltb, ◌⊎◌, ◌↔◌, List, [], ◌∷◌, ◌++◌, length, set, Some, None, Option, sym, refl, ap, ◌∙◌, subst, inl, inr, ⊎_elim, append-nil, arith}
+use Rattle.std.proofs.Common.{◌≡◌, ℕ, suc, ◌+◌, ◌<◌, ◌≤◌, Bool, true, false, cond, eqb, ltb, ◌↔◌, List, [], ◌∷◌, ◌++◌, length, set, Some, None, Option, sym, refl, ap, ◌∙◌, subst, ⊎_elim, append-nil, arith}
 use Rattle.std.proofs.lemmas.Bool.{cond-true, ltb-true, ltb-false, eqb-true, eq-eqb}
 use Rattle.std.specs.Option.{option_map}
 use Rattle.message.specs.declared.row.Row.{Row}
 use Rattle.message.specs.declared.open.Open.{Open}
 use Rattle.message.specs.declared.open.Next.{Next}
-use Rattle.message.specs.Rows.{Seat, ◌#◌, row_at, RowMessage, RowRules}
+use Rattle.message.specs.Rows.{Seat, ◌#◌, RowMessage, RowRules}
 use Rattle.message.specs.declared.walk.Walk.{Walk}
-use Rattle.message.specs.Walk.{depth, within, position, next, seat_of, Stands, start, Answered}
+use Rattle.message.specs.Walk.{within, position, next, Stands, start, Answered}
 use Rattle.message.specs.Walking.{seats_of, StandsAfter, Asks, Offers, Completes}
 use Rattle.message.specs.Searching.{state_of, leads_to, answer_of}
-use Rattle.message.proofs.Levels.{kind, level, depth_at, kind_cases, depth-plain, depth_trigger}
-use Rattle.message.proofs.Afters.{Sound, Nested, bare, on, sound, under, depth_of_lem}
+use Rattle.message.proofs.Levels.{kind, depth_at, kind_cases, depth-plain, depth_trigger}
+use Rattle.message.proofs.Afters.{Nested, sound, under, depth_of_lem}
 use Rattle.message.proofs.Completions.{number_in}
 use Rattle.message.proofs.Standings.{stands-nested, answered_none, answered_some, message_at_end, end_message}
 use Rattle.message.proofs.Searches.{length-state_of}

@@ -1,6 +1,6 @@
 -- Which rows may come directly after which, as one computation over all rows of a diagram:
 -- after a row that has occurred once, as have the triggers of the groups it stands in.
-use Rattle.std.specs.Prelude.{ℕ, suc, ◌+◌, Bool, true, false, cond, not, ◌&&◌, ◌||◌, leb, List, [], ◌∷◌, ◌++◌, map, ◌==◌, nat_le, nat_lt}
+use Rattle.std.specs.Prelude.{ℕ, suc, ◌+◌, Bool, true, cond, not, ◌&&◌, ◌||◌, leb, List, [], ◌∷◌, ◌++◌, ◌==◌, nat_le, nat_lt}
 use Rattle.std.specs.Str.{bytes_eq}
 use Rattle.message.specs.declared.row.Kind.{Kind}
 use Rattle.message.specs.declared.row.Kind.TheVariants.{Trigger, Plain}

@@ -1,9 +1,8 @@
 -- Layouts: what a book says of the elements and components of a row's segment, and the rules it keeps.
-use Rattle.std.specs.Prelude.{◌≡◌, ℕ, suc, ◌+◌, Bool, true, false, cond, ◌&&◌, ◌||◌, List, [], ◌∷◌, map, length, is_some, Some, None, Option, ◌==◌, nat_le}
+use Rattle.std.specs.Prelude.{ℕ, suc, Bool, true, false, cond, ◌&&◌, ◌||◌, List, [], ◌∷◌, length, is_some, Some, None, Option, ◌==◌, nat_le}
 use Rattle.std.specs.List.{slice_get}
-use Rattle.std.specs.Option.{option_map}
 use Rattle.syntax.specs.declared.marks.DecimalMark.{DecimalMark}
-use Rattle.syntax.specs.declared.marks.DecimalMark.TheVariants.{Point, Comma}
+use Rattle.syntax.specs.declared.marks.DecimalMark.TheVariants.{Point}
 use Rattle.syntax.specs.Bytes.{capital, small, digit}
 use Rattle.syntax.specs.Marks.{decimal_byte}
 use Rattle.message.specs.declared.layout.Class.{Class}

@@ -1,8 +1,6 @@
 -- The rows of a branching diagram, the rules they keep, and what a message is as far as its rows go.
-use Rattle.std.specs.Prelude.{◌≡◌, ℕ, suc, ◌+◌, ◌-◌, ◌<◌, ◌≤◌, ◌⊎◌, List, [], ◌∷◌, ◌++◌, length, codes, slice_index, slice_index_or}
-use Rattle.message.specs.declared.row.Kind.{Kind}
+use Rattle.std.specs.Prelude.{◌≡◌, ℕ, suc, ◌-◌, ◌<◌, ◌≤◌, ◌⊎◌, List, [], ◌∷◌, ◌++◌, length, codes, slice_index, slice_index_or}
 use Rattle.message.specs.declared.row.Kind.TheVariants.{Trigger, Plain}
-use Rattle.message.specs.declared.row.Need.{Need}
 use Rattle.message.specs.declared.row.Need.TheVariants.{Optional, Required}
 use Rattle.message.specs.declared.row.Row.{Row}
 

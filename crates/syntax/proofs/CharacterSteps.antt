@@ -1,7 +1,7 @@
 -- One character more, in the loops over a component's bytes.
 use Rattle.std.proofs.Common.{◌≡◌, ℕ, suc, ◌+◌, ◌<◌, ◌≤◌, Bool, true, false, cond, ◌&&◌, eqb, ltb, List, [], ◌∷◌, length, get_or, drop, Some, None, Option, sym, refl, ap, ◌∙◌, arith}
 use Rattle.std.proofs.lemmas.List.{at_drop_more, at_drop_all}
-use Rattle.std.proofs.lemmas.Bool.{cond_both, ne_eqb, le-ltb}
+use Rattle.std.proofs.lemmas.Bool.{ne_eqb, le-ltb}
 use Rattle.syntax.specs.declared.characters.FoundCharacter.{FoundCharacter}
 use Rattle.std.specs.Str.{bytes_eq}
 use Rattle.syntax.specs.Split.{releases, characters}

@@ -1,6 +1,6 @@
 -- Splitting bytes at a mark that no release mark protects, and taking release marks out.
 -- The flag `protected` says that a release mark stands before the first byte and protects it.
-use Rattle.std.specs.Prelude.{ℕ, suc, Bool, true, false, cond, not, ◌&&◌, List, [], ◌∷◌, ◌++◌, ◌==◌}
+use Rattle.std.specs.Prelude.{ℕ, suc, Bool, cond, not, ◌&&◌, List, [], ◌∷◌, ◌++◌, ◌==◌}
 
 -- whether b is a release mark that protects the next byte
 abbrev pub releases : (release : ℕ) (protected : Bool) → ℕ → Bool

@@ -1,4 +1,4 @@
-use Rattle.std.proofs.Common.{arith, rules}
+use Rattle.std.proofs.Common.{rules}
 use Rattle.edifact.proofs.Tags.{tag-none, tag-some}
 use Rattle.edifact.proofs.scan.tag_of.Goals as goal
 

@@ -1,4 +1,4 @@
-use Rattle.std.proofs.Common.{◌≡◌, sym, refl, ap, ◌∙◌, arith}
+use Rattle.std.proofs.Common.{sym, ◌∙◌, arith}
 use Rattle.examiner.specs.Parts.{current}
 use Rattle.examiner.proofs.Passes.{rest_less, rest_more}
 use Rattle.examiner.proofs.layout_check.pass_rest.Goals as goal

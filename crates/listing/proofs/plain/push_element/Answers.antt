@@ -1,5 +1,5 @@
-use Rattle.std.proofs.Common.{◌≡◌, ℕ, ◌+◌, List, ◌++◌, length, vec_items, ap, ◌∙◌, arith}
-use Rattle.edifact.specs.Cursors.{Part, component_part, components_left}
+use Rattle.std.proofs.Common.{◌+◌, ◌++◌, length, vec_items, ap, ◌∙◌, arith}
+use Rattle.edifact.specs.Cursors.{component_part, components_left}
 use Rattle.edifact.specs.Segments.{components}
 use Rattle.listing.specs.Plain.{component_line}
 use Rattle.listing.proofs.Lines.{lines_more, parts-written, length-parts, left_none}

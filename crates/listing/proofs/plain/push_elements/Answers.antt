@@ -1,7 +1,7 @@
-use Rattle.std.proofs.Common.{◌≡◌, ℕ, ◌+◌, List, ◌++◌, map, length, vec_items, ap, ◌∙◌, subst, arith}
+use Rattle.std.proofs.Common.{◌≡◌, ℕ, List, map, length, vec_items, ap, subst, arith}
 use Rattle.std.specs.Option.{option_map}
 use Rattle.syntax.specs.Cursors.{Takes}
-use Rattle.edifact.specs.Cursors.{Part, part, element_part, elements_left}
+use Rattle.edifact.specs.Cursors.{part, element_part, elements_left}
 use Rattle.edifact.specs.Segments.{elements, others_of}
 use Rattle.listing.specs.Plain.{element_lines}
 use Rattle.listing.proofs.Lines.{lines_more, parts-written, length-parts, length-others, step-others, left_none}

@@ -1,7 +1,6 @@
-use Rattle.std.proofs.Common.{◌≡◌, ◌+◌, ◌++◌, length, vec_items}
+use Rattle.std.proofs.Common.{length, vec_items}
 use Rattle.edifact.specs.Cursors.{remaining}
 use Rattle.edifact.specs.Cutting.{cut}
-use Rattle.listing.specs.Plain.{lines, segment_lines, listing}
 use Rattle.listing.proofs.Listings.{Listed}
 use Rattle.listing.proofs.plain.push_text.Given as goal
 

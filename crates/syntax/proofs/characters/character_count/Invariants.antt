@@ -1,4 +1,4 @@
-use Rattle.std.proofs.Common.{◌≡◌, ◌+◌, ◌-◌, ◌≤◌, false, length, drop}
+use Rattle.std.proofs.Common.{◌≡◌, ◌+◌, ◌≤◌, false, length, drop}
 use Rattle.syntax.specs.Split.{characters}
 use Rattle.syntax.proofs.characters.character_count.Given as goal
 

@@ -1,4 +1,4 @@
-use Rattle.std.proofs.Common.{ap, arith}
+use Rattle.std.proofs.Common.{arith}
 use Rattle.std.proofs.lemmas.Bool.Decides.{nat_tests}
 use Rattle.syntax.proofs.CharacterSteps.{same_more, same_short, same-long, same_end}
 use Rattle.syntax.proofs.characters.same_characters.Goals as goal

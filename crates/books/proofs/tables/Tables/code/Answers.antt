@@ -1,4 +1,4 @@
-use Rattle.std.proofs.Common.{Some, None, refl, ap, ◌∙◌}
+use Rattle.std.proofs.Common.{Some, None, ap, ◌∙◌}
 use Rattle.books.proofs.Lookups.{code_found}
 use Rattle.books.proofs.tables.Tables.code.Goals as goal
 

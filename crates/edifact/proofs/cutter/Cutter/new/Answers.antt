@@ -1,4 +1,4 @@
-use Rattle.std.proofs.Common.{◌≡◌, unwrap_or, sym, refl, ap, ◌∙◌, arith}
+use Rattle.std.proofs.Common.{unwrap_or, sym, ap, ◌∙◌, arith}
 use Rattle.syntax.specs.Marks.{usual}
 use Rattle.edifact.proofs.Beginnings.{start-cut, start-stopped}
 use Rattle.syntax.proofs.Headers.{header-body}

@@ -1,4 +1,4 @@
-use Rattle.std.proofs.Common.{◌≡◌, ◌+◌, Bool, sym, refl, ap, ◌∙◌}
+use Rattle.std.proofs.Common.{◌+◌, Bool, refl, ap, ◌∙◌}
 use Rattle.message.specs.Layouts.{status_of}
 use Rattle.message.specs.Judging.{spot}
 use Rattle.examiner.specs.Checking.{rules_at, beyond_at}

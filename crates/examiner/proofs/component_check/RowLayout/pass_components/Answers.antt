@@ -1,4 +1,4 @@
-use Rattle.std.proofs.Common.{◌≡◌, sym, refl, ap, ◌∙◌, arith}
+use Rattle.std.proofs.Common.{refl, ap, ◌∙◌, arith}
 use Rattle.syntax.specs.declared.marks.DecimalMark.{DecimalMark}
 use Rattle.message.specs.Judging.{first}
 use Rattle.examiner.specs.Measuring.{measure_of}

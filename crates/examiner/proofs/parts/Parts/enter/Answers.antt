@@ -1,7 +1,6 @@
 use Rattle.examiner.proofs.PartSteps.{inside-some}
 use Rattle.examiner.proofs.parts.Parts.enter.Goals as goal
-use Rattle.examiner.specs.Parts.{current}
-use Rattle.std.proofs.Common.{◌≡◌, [], refl}
+use Rattle.std.proofs.Common.{refl}
 
 pub returns-then-self : goal.returns-then-self
 returns-then-self c = record {

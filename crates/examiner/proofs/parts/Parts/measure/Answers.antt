@@ -1,4 +1,4 @@
-use Rattle.std.proofs.Common.{◌≡◌, ℕ, List, length, sym, refl, ap, ◌∙◌, arith, length-drop}
+use Rattle.std.proofs.Common.{length, sym, ap, ◌∙◌, arith, length-drop}
 use Rattle.examiner.specs.Measuring.{measure_of}
 use Rattle.examiner.proofs.PartSteps.{first_component_is, other_components_are, later_elements_are}
 use Rattle.examiner.proofs.parts.Parts.measure.Goals as goal

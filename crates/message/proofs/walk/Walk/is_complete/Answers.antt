@@ -1,4 +1,4 @@
-use Rattle.std.proofs.Common.{arith, rules}
+use Rattle.std.proofs.Common.{rules}
 use Rattle.message.proofs.Places.{last_come}
 use Rattle.message.proofs.Walks.{completes_walk}
 use Rattle.message.proofs.walk.Walk.is_complete.Goals as goal

@@ -1,4 +1,3 @@
-use Rattle.std.proofs.Common.{[], sym, subst, rules}
 use Rattle.message.proofs.Walks.{begun_nowhere}
 use Rattle.message.proofs.WalkLaws.{walk_laws}
 use Rattle.message.proofs.walk.Walk.new.Goals as goal

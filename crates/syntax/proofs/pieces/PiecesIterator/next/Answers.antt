@@ -1,4 +1,4 @@
-use Rattle.std.proofs.Common.{arith, rules}
+use Rattle.std.proofs.Common.{arith}
 use Rattle.syntax.proofs.Splits.{split-next, split-last}
 use Rattle.syntax.proofs.pieces.PiecesIterator.next.Goals as goal
 
