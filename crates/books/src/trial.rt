@@ -6,7 +6,6 @@ ghost use Rattle.message.specs.Messages.{Clear};
 ghost use Rattle.books.specs.Tables.{rows_of, layouts_of, identifier_of};
 ghost use Rattle.books.specs.Trial.{trial_rows, trial_layouts, trial_identifier, trial_meaning};
 ghost use Rattle.message.proofs.RowTests.{rows_keep_rules};
-ghost use Rattle.std.proofs.Common.{rules};
 
 use crate::tables::{ComponentLine, ElementLine, RowLine, Span, Tables};
 use message::book::{Book, Diagram};
@@ -142,13 +141,13 @@ impl Book for TrialBook {
 
     ghost identifier = { λ _. trial_identifier };
 
-    ghost regular = { Prim.search rules };
+    ghost regular = { λ _. refl };
 
-    ghost paired = { Prim.search rules };
+    ghost paired = { λ _. refl };
 
-    ghost bare = { Prim.search rules };
+    ghost bare = { λ _. (refl, refl) };
 
-    ghost identified = { Prim.search rules };
+    ghost identified = { λ _. refl };
 
     fn element(&self, row: usize, element: usize) -> Option<ElementRule> {
         tables().element(row, element)

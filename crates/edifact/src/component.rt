@@ -2,7 +2,7 @@
 ghost use Rattle.std.specs.Prelude.{◌≡◌, false, length, nat_lt};
 ghost use Rattle.std.specs.Option.{option_map};
 ghost use Rattle.std.specs.Str.{bytes_eq};
-ghost use Rattle.syntax.specs.Split.{characters as charactersIn};
+ghost use Rattle.syntax.specs.Split.{characters as characters_in};
 ghost use Rattle.syntax.specs.Cursors.{Takes, characters_left};
 ghost use Rattle.edifact.specs.Cursors.{component_part, components_left};
 ghost use Rattle.std.specs.Iterator.{at_most};
@@ -35,28 +35,28 @@ impl<'t> Component<'t> {
 
     // Its characters: release marks out.
     pub fn characters(&self) -> Characters<'t>
-        ensures { characters_left result ≡ charactersIn self.now.marks.release false self.now.bytes.now }
+        ensures { characters_left result ≡ characters_in self.now.marks.release false self.now.bytes.now }
     {
         Characters::of(self.bytes, self.marks.release)
     }
 
     // How many characters it has.
     pub fn character_count(&self) -> usize
-        ensures { result ≡ length (charactersIn self.now.marks.release false self.now.bytes.now) }
+        ensures { result ≡ length (characters_in self.now.marks.release false self.now.bytes.now) }
     {
         character_count(self.bytes, self.marks.release)
     }
 
     // Whether it has a character.
     pub fn is_filled(&self) -> bool
-        ensures { result ≡ nat_lt 0 (length (charactersIn self.now.marks.release false self.now.bytes.now)) }
+        ensures { result ≡ nat_lt 0 (length (characters_in self.now.marks.release false self.now.bytes.now)) }
     {
         self.characters().next().is_some()
     }
 
     // Whether its characters are those of `plain`.
     pub fn spells(&self, plain: &[u8]) -> bool
-        ensures { result ≡ bytes_eq (charactersIn self.now.marks.release false self.now.bytes.now) plain.now }
+        ensures { result ≡ bytes_eq (characters_in self.now.marks.release false self.now.bytes.now) plain.now }
     {
         same_characters(self.bytes, self.marks.release, plain)
     }

@@ -1,7 +1,7 @@
 // An element of a segment, and the cursor over a segment's elements.
 ghost use Rattle.std.specs.Prelude.{◌≡◌, map, length, Some};
 ghost use Rattle.std.specs.Option.{option_map};
-ghost use Rattle.edifact.specs.Segments.{components as componentsIn, component_in};
+ghost use Rattle.edifact.specs.Segments.{components as components_in, component_in};
 ghost use Rattle.syntax.specs.Cursors.{Takes};
 ghost use Rattle.edifact.specs.Cursors.{part, element_part, component_part, elements_left, components_left};
 ghost use Rattle.std.specs.Iterator.{at_most};
@@ -34,7 +34,7 @@ impl<'t> Element<'t> {
 
     // Its components.
     pub fn components(&self) -> Components<'t>
-        ensures { components_left result ≡ map (part self.now.marks) (componentsIn self.now.marks self.now.bytes.now) }
+        ensures { components_left result ≡ map (part self.now.marks) (components_in self.now.marks self.now.bytes.now) }
     {
         Components {
             marks: self.marks,
@@ -44,7 +44,7 @@ impl<'t> Element<'t> {
 
     // How many components it has.
     pub fn component_count(&self) -> usize
-        ensures { result ≡ length (componentsIn self.now.marks self.now.bytes.now) }
+        ensures { result ≡ length (components_in self.now.marks self.now.bytes.now) }
     {
         piece_count(self.bytes, self.marks.release, self.marks.component)
     }

@@ -1,7 +1,7 @@
 // Finding the segment with which bytes begin.
 ghost use Rattle.std.specs.Prelude.{◌≡◌, ◌+◌, ◌^◌, ◌<◌, ◌≤◌, false, length as size, IfOk};
 ghost use Rattle.syntax.specs.Bytes.{break_run};
-ghost use Rattle.syntax.specs.Split.{characters as charactersIn};
+ghost use Rattle.syntax.specs.Split.{characters as characters_in};
 ghost use Rattle.edifact.specs.Segments.{is_tag, tag_in, tag_of};
 ghost use Rattle.edifact.specs.Scanning.{after, placed, end_in, segment_in};
 
@@ -102,7 +102,7 @@ pub fn is_tag(a: u8, b: u8, c: u8) -> bool
 
 // The characters of `bytes`, if they are a tag.
 fn tag_in(bytes: &[u8], release: u8) -> Option<[u8; 3]>
-    ensures { result ≡ tag_in (charactersIn release false bytes.now) }
+    ensures { result ≡ tag_in (characters_in release false bytes.now) }
 {
     let mut characters = Characters::of(bytes, release);
     let Some(a) = characters.next() else {

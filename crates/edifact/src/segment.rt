@@ -2,7 +2,7 @@
 ghost use Rattle.std.specs.Prelude.{◌≡◌, map, length};
 ghost use Rattle.std.specs.List.{slice_get};
 ghost use Rattle.std.specs.Option.{option_map};
-ghost use Rattle.edifact.specs.Segments.{elements as elementsIn, component_at};
+ghost use Rattle.edifact.specs.Segments.{elements as elements_in, component_at};
 ghost use Rattle.edifact.specs.Cursors.{part, element_part, component_part, elements_left};
 
 use crate::component::Component;
@@ -65,7 +65,7 @@ impl<'t> Segment<'t> {
 
     // Its elements, the tag first.
     pub fn elements(&self) -> Elements<'t>
-        ensures { elements_left result ≡ map (part self.now.marks) (elementsIn self.now.marks self.now.bytes.now) }
+        ensures { elements_left result ≡ map (part self.now.marks) (elements_in self.now.marks self.now.bytes.now) }
     {
         Elements {
             marks: self.marks,
@@ -75,14 +75,14 @@ impl<'t> Segment<'t> {
 
     // How many elements it has, the tag included.
     pub fn element_count(&self) -> usize
-        ensures { result ≡ length (elementsIn self.now.marks self.now.bytes.now) }
+        ensures { result ≡ length (elements_in self.now.marks self.now.bytes.now) }
     {
         piece_count(self.bytes, self.marks.release, self.marks.element)
     }
 
     // The element of that number, from 0, which is the tag.
     pub fn element(&self, number: usize) -> Option<Element<'t>>
-        ensures { option_map element_part result ≡ option_map (part self.now.marks) (slice_get (elementsIn self.now.marks self.now.bytes.now) number) }
+        ensures { option_map element_part result ≡ option_map (part self.now.marks) (slice_get (elements_in self.now.marks self.now.bytes.now) number) }
     {
         match piece(self.bytes, self.marks.release, self.marks.element, number) {
             Some(bytes) => Some(Element {

@@ -3,7 +3,7 @@ ghost use Rattle.std.specs.Prelude.{◌≡◌, [], ◌∷◌, ◌++◌, IfOk, co
 ghost use Rattle.edifact.specs.Cursors.{element_part, cut_of};
 ghost use Rattle.edifact.specs.Cutting.{cut};
 ghost use Rattle.syntax.specs.Faults.{refusal_of};
-ghost use Rattle.edifact.specs.Segments.{elements as elementsIn, others_of};
+ghost use Rattle.edifact.specs.Segments.{elements as elements_in, others_of};
 ghost use Rattle.listing.specs.Plain.{field, component_line, element_lines, lines, segment_line, segment_lines, refusal_line, file_line, listing};
 
 use edifact::cutter::Cutter;
@@ -61,7 +61,7 @@ pub fn push_elements(
     out: &mut Vec<u8>,
     segment: &Segment<'_>,
 ) -> Result<(), AllocError>
-    ensures { OnOk result (out.new.items ≡ out.old.items ++ lines (element_lines (cut_of segment.now).marks) 1 (others_of (elementsIn (cut_of segment.now).marks (cut_of segment.now).bytes))) }
+    ensures { OnOk result (out.new.items ≡ out.old.items ++ lines (element_lines (cut_of segment.now).marks) 1 (others_of (elements_in (cut_of segment.now).marks (cut_of segment.now).bytes))) }
 {
     let mut left = segment.elements();
     let _ = left.next();

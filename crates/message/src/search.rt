@@ -3,7 +3,7 @@ ghost use Rattle.std.specs.Prelude.{◌≡◌, ◌≤◌, min, length, MatchOpti
 ghost use Rattle.std.specs.Option.{option_map};
 ghost use Rattle.std.specs.Str.{bytes_eq};
 ghost use Rattle.message.specs.RowTests.{is_required};
-ghost use Rattle.message.specs.Walk.{depth as depthIn, next, may_repeat, ends_at, has_tag};
+ghost use Rattle.message.specs.Walk.{depth as depth_in, next, may_repeat, ends_at, has_tag};
 ghost use Rattle.message.specs.Searching.{state_of, leads_to, again_if, first_if, lower_next, innermost, parts_depth, behind, Closes};
 
 use crate::book::Diagram;
@@ -12,7 +12,7 @@ use crate::row::{Kind, Need, Row};
 
 // How deep a row stands as a part of its surroundings.
 fn depth_of(row: Row) -> usize
-    ensures { result ≡ depthIn row }
+    ensures { result ≡ depth_in row }
 {
     match row.kind {
         Kind::Trigger => usize::from(row.level),

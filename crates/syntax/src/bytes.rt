@@ -2,7 +2,7 @@
 ghost use Rattle.std.specs.Prelude.{◌≡◌};
 ghost use Rattle.syntax.specs.Bytes.{allowed, line_break};
 ghost use Rattle.syntax.specs.Marks.{markable};
-ghost use Rattle.syntax.specs.Split.{releases as releasesIn, divides as dividesIn};
+ghost use Rattle.syntax.specs.Split.{releases as releases_in, divides as divides_in};
 
 // Whether `b` may stand in a segment.
 pub fn is_allowed(b: u8) -> bool
@@ -32,14 +32,14 @@ pub fn is_markable(b: u8) -> bool
 
 // Whether `b` is a release mark that protects the next byte.
 pub fn is_release(b: u8, release: u8, protected: bool) -> bool
-    ensures { result ≡ releasesIn release protected b }
+    ensures { result ≡ releases_in release protected b }
 {
     !protected && b == release
 }
 
 // Whether `b` is the mark, unprotected. A release mark is no other mark.
 pub fn is_mark(b: u8, release: u8, mark: u8, protected: bool) -> bool
-    ensures { result ≡ dividesIn release mark protected b }
+    ensures { result ≡ divides_in release mark protected b }
 {
     !protected && b != release && b == mark
 }

@@ -1,7 +1,7 @@
 // The characters of a component: release marks out.
 ghost use Rattle.std.specs.Prelude.{◌≡◌, ◌≤◌, false, length as size, IfSome};
 ghost use Rattle.std.specs.Str.{bytes_eq};
-ghost use Rattle.syntax.specs.Split.{characters as charactersIn};
+ghost use Rattle.syntax.specs.Split.{characters as characters_in};
 ghost use Rattle.syntax.specs.Cursors.{character_in};
 ghost use Rattle.syntax.specs.Cursors.{Takes, characters_left};
 ghost use Rattle.std.specs.Iterator.{at_most};
@@ -47,7 +47,7 @@ pub struct Characters<'t> {
 
 impl<'t> Characters<'t> {
     pub fn of(bytes: &'t [u8], release: u8) -> Characters<'t>
-        ensures { characters_left result ≡ charactersIn release false bytes.now }
+        ensures { characters_left result ≡ characters_in release false bytes.now }
     {
         Characters {
             rest: bytes,
@@ -78,7 +78,7 @@ impl<'t> Iterator for Characters<'t> {
 
 // How many characters `bytes` has.
 pub fn character_count(bytes: &[u8], release: u8) -> usize
-    ensures { result ≡ size (charactersIn release false bytes.now) }
+    ensures { result ≡ size (characters_in release false bytes.now) }
 {
     let mut count = 0;
     let mut protected = false;
@@ -93,7 +93,7 @@ pub fn character_count(bytes: &[u8], release: u8) -> usize
 
 // Whether the characters of `bytes` are those of `plain`.
 pub fn same_characters(bytes: &[u8], release: u8, plain: &[u8]) -> bool
-    ensures { result ≡ bytes_eq (charactersIn release false bytes.now) plain.now }
+    ensures { result ≡ bytes_eq (characters_in release false bytes.now) plain.now }
 {
     let mut characters = Characters::of(bytes, release);
     for p in plain {
