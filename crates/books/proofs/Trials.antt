@@ -59,12 +59,6 @@ trial-successors = refl
 recadv-successors : successor_numbers recadv_rows ≡ numbers recadv_rows
 recadv-successors = refl
 
-trial-apart : successors_differ trial_rows ≡ true
-trial-apart = refl
-
-recadv-apart : successors_differ recadv_rows ≡ true
-recadv-apart = refl
-
 unclear-successors : successors_differ unclear_rows ≡ false
 unclear-successors = refl
 

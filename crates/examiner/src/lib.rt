@@ -1,4 +1,4 @@
-// The examination of segments: the layout check, and the header's and the trailer's rules.
+// The layout check of segments: the first fault of a segment against the layout of a row.
 #![tactic(auto)]
 
 mod component_check;

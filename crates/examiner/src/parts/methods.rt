@@ -1,5 +1,5 @@
 // What a cursor over a segment's components does.
-ghost use Rattle.std.specs.Prelude.{◌≡◌, ◌<◌, true, [], length};
+ghost use Rattle.std.specs.Prelude.{◌≡◌, ◌<◌, ◌≢◌, true, [], length};
 ghost use Rattle.message.specs.Judging.{first, others};
 ghost use Rattle.examiner.specs.Measuring.{measure_of};
 ghost use Rattle.examiner.specs.Parts.{current, later, texts_of, same_element, next_elements};
@@ -74,8 +74,9 @@ impl<'t> Parts<'t> {
         found.measure
     }
 
-    // Goes on to the next element, if the components of this one have all come.
+    // Goes on to the next element, if the components of this one have all come, and else stays.
     pub fn enter(&mut self)
+        ensures stays { current self.old ≢ [] → self.new ≡ self.old }
         ensures current { current self.old ≡ [] → current self.new ≡ first (later self.old) }
         ensures later { current self.old ≡ [] → later self.new ≡ others (later self.old) }
         ensures decimal { self.new.decimal ≡ self.old.decimal }
