@@ -8,8 +8,7 @@ use Rattle.message.specs.declared.row.Kind.TheVariants.{Trigger, Plain}
 use Rattle.message.specs.declared.row.Need.{Need}
 use Rattle.message.specs.declared.row.Need.TheVariants.{Optional, Required}
 use Rattle.message.specs.declared.row.Row.{Row}
-use Rattle.message.specs.declared.layout.Class.{Class}
-use Rattle.message.specs.declared.layout.Class.TheVariants.{Alphabetic, Numeric, Alphanumeric}
+use Rattle.message.specs.Notation.{class_text}
 use Rattle.message.specs.declared.layout.Extent.{Extent}
 use Rattle.message.specs.declared.layout.Extent.TheVariants.{Exactly, AtMost}
 use Rattle.message.specs.declared.layout.ElementRule.{ElementRule}
@@ -24,11 +23,6 @@ kind_letter Plain = 112
 abbrev pub need_letter : Need → ℕ
 need_letter Optional = 79
 need_letter Required = 82
-
-abbrev pub class_name : Class → List ℕ
-class_name Alphabetic = codes "a"
-class_name Numeric = codes "n"
-class_name Alphanumeric = codes "an"
 
 abbrev pub extent_mark : Extent → List ℕ
 extent_mark (Exactly n) = codes "="
@@ -55,10 +49,10 @@ identifier_line parts = codes "identifier" ++ (part_field (slice_get parts 0) ++
 abbrev pub row_line : (n : ℕ) → Row → List ℕ
 row_line n r = (codes "row" ++ (field n ++ 9 ∷ [])) ++ (r.tag ++ (field r.level ++ (text_field (encode (kind_letter r.kind)) ++ (text_field (encode (need_letter r.need)) ++ (field r.limit ++ 10 ∷ [])))))
 
--- element e of row n; e counts from 0, and the line from 1
-abbrev pub element_line : (n e : ℕ) → ElementRule → List ℕ
-element_line n e rule = codes "element" ++ (field n ++ (field (e + 1) ++ (text_field (encode rule.status) ++ 10 ∷ [])))
+-- element e of row n, with the numbers as the line has them
+abbrev pub element_fields : (n e : ℕ) → ElementRule → List ℕ
+element_fields n e rule = codes "element" ++ (field n ++ (field e ++ (text_field (encode rule.status) ++ 10 ∷ [])))
 
--- component c of element e, up to its codes; both count from 0, and the line from 1
-abbrev pub component_fields : (n e c : ℕ) → ComponentRule → List ℕ
-component_fields n e c rule = (codes "component" ++ (field n ++ (field (e + 1) ++ (field (c + 1) ++ 9 ∷ [])))) ++ (class_name rule.class ++ (text_field (extent_mark rule.extent) ++ (field (extent_length rule.extent) ++ (text_field (encode rule.status) ++ 9 ∷ []))))
+-- component c of element e, up to its codes, with the numbers as the line has them
+abbrev pub component_texts : (n e c : ℕ) → ComponentRule → List ℕ
+component_texts n e c rule = (codes "component" ++ (field n ++ (field e ++ (field c ++ 9 ∷ [])))) ++ (class_text rule.class ++ (text_field (extent_mark rule.extent) ++ (field (extent_length rule.extent) ++ (text_field (encode rule.status) ++ 9 ∷ []))))

@@ -1,5 +1,6 @@
 // What the program prints of a book.
 #![tactic(auto)]
 
-pub mod person;
+pub mod form;
+mod person;
 pub mod plain;

@@ -1,145 +1,110 @@
-// The listing of a book for a person: a line for each row, element and component.
-use crate::plain::{MOST_COMPONENTS, MOST_ELEMENTS, class_name, push_codes};
-use listing::command::Detail;
+// The form of a book for a person: a line for each row, element and component.
+ghost use Rattle.std.specs.Prelude.{◌≡◌, ◌++◌, OnOk};
+ghost use Rattle.booklist.specs.Person.{identifier_text, row_text, element_text, component_text, indented, kind_text, need_text};
+
+use crate::form::{BookForm, PARTS};
+use listing::page::Page;
+use listing::person::Person;
 use message::book::Book;
-use message::layout::{ComponentRule, ElementRule, Extent};
+use message::layout::{ComponentRule, ElementRule};
 use message::row::{Kind, Need, Row};
-use std::alloc::{AllocError, Global};
+use std::alloc::AllocError;
 
-// How many parts an identifier has.
-const PARTS: usize = 5;
-
-// The parts of the identifier, with a colon between them.
-fn push_identifier<B: Book>(out: &mut Vec<u8>, book: &B) -> Result<(), AllocError> {
-    for number in 0..PARTS {
-        if number > 0 {
-            out.push(b':')?;
-        }
-        if let Some(part) = book.identifier_part(number) {
-            out.extend_from_slice(part)?;
-        }
-    }
-    out.push(b'\n')?;
-    Ok(())
-}
-
-// A row: its number, its tag indented by its level, and how often it stands.
-fn push_row(heap: Global, out: &mut Vec<u8>, n: usize, row: Row) -> Result<(), AllocError> {
-    let number = format!(in heap; "{n:>6}  ")?;
-    out.extend_from_slice(number.as_bytes())?;
-    for _ in 0..row.level {
-        out.extend_from_slice(b"  ")?;
-    }
-    out.extend_from_slice(&row.tag)?;
-    let group = match row.kind {
+// Words of this form alone: `Display` would give a row's kind and need one text for both forms.
+fn kind_text(kind: Kind) -> &'static str
+    ensures { result.now ≡ kind_text kind }
+{
+    match kind {
         Kind::Trigger => " group",
         Kind::Plain => "",
-    };
-    let need = match row.need {
+    }
+}
+
+fn need_text(need: Need) -> &'static str
+    ensures { result.now ≡ need_text need }
+{
+    match need {
         Need::Optional => "optional",
         Need::Required => "required",
-    };
-    let limit = row.limit;
-    let times = if limit == 1 { "time" } else { "times" };
-    let rest = format!(in heap; "{group}, {need}, up to {limit} {times}\n")?;
-    out.extend_from_slice(rest.as_bytes())
+    }
 }
 
-// An element: its number from 1, its status letter, and whether it has several components.
-fn push_element(
-    heap: Global,
-    out: &mut Vec<u8>,
-    e: usize,
-    rule: ElementRule,
-) -> Result<(), AllocError> {
-    let element = e.saturating_add(1);
-    let status = rule.status;
-    let composite = if rule.components > 1 {
-        " composite"
-    } else {
-        ""
-    };
-    let line = format!(in heap; "{element:>12} {status}{composite}\n")?;
-    out.extend_from_slice(line.as_bytes())
+// Two spaces for each level.
+fn push_indent(page: &mut Page, level: u8) -> Result<(), AllocError>
+    ensures { OnOk result (page.new ≡ page.old ++ indented level) }
+{
+    for _step in 0..level {
+        page.push_bytes(b"  ")?;
+    }
+    Ok(())
 }
 
-// A component up to its codes: its numbers from 1, its class and length, and its status letter.
-fn push_component_head(
-    heap: Global,
-    out: &mut Vec<u8>,
-    e: usize,
-    c: usize,
-    rule: ComponentRule,
-) -> Result<(), AllocError> {
-    let element = e.saturating_add(1);
-    let component = c.saturating_add(1);
-    let class = class_name(rule.class);
-    let status = rule.status;
-    let head = match rule.extent {
-        Extent::Exactly(length) => {
-            format!(in heap; "{element:>12}.{component} {class}{length} {status}")?
+impl BookForm for Person {
+    ghost shown_identifier = { identifier_text };
+
+    ghost shown_row = { row_text };
+
+    ghost shown_element = { λ n e rule. element_text e rule };
+
+    ghost shown_component = { λ n e c rule. component_text e c rule };
+
+    // The parts of the identifier, with a colon between them.
+    fn push_identifier<B: Book>(page: &mut Page, book: &B) -> Result<(), AllocError> {
+        if let Some(part) = book.identifier_part(0) {
+            page.push_bytes(part)?;
         }
-        Extent::AtMost(length) => {
-            format!(in heap; "{element:>12}.{component} {class}..{length} {status}")?
+        for number in 1..PARTS {
+            page.push(b':')?;
+            if let Some(part) = book.identifier_part(number) {
+                page.push_bytes(part)?;
+            }
         }
-    };
-    out.extend_from_slice(head.as_bytes())
-}
+        page.push(b'\n')
+    }
 
-fn push_components<B: Book>(
-    heap: Global,
-    out: &mut Vec<u8>,
-    book: &B,
-    n: usize,
-    e: usize,
-) -> Result<(), AllocError> {
-    for c in 0..MOST_COMPONENTS {
-        let Some(rule) = book.component(n, e, c) else {
-            break;
+    // A row: its number, its tag indented by its level, and how often it stands.
+    fn push_row(page: &mut Page, n: usize, row: Row) -> Result<(), AllocError> {
+        let group = kind_text(row.kind);
+        let need = need_text(row.need);
+        let limit = row.limit;
+        let times = if limit == 1 { "time" } else { "times" };
+        write!(page, "{n:>6}  ")?;
+        push_indent(page, row.level)?;
+        page.push_bytes(&row.tag)?;
+        writeln!(page, "{group}, {need}, up to {limit} {times}")
+    }
+
+    // An element: its number, its status letter, and whether it has several components.
+    fn push_element(
+        page: &mut Page,
+        n: usize,
+        e: usize,
+        rule: ElementRule,
+    ) -> Result<(), AllocError> {
+        let status = rule.status;
+        let composite = if rule.components > 1 {
+            " composite"
+        } else {
+            ""
         };
-        push_component_head(heap, out, e, c, rule)?;
+        writeln!(page, "{e:>12} {status}{composite}")
+    }
+
+    // A component: its numbers, its class and length, its status letter, and whether codes follow.
+    fn push_component(
+        page: &mut Page,
+        n: usize,
+        e: usize,
+        c: usize,
+        rule: ComponentRule,
+    ) -> Result<(), AllocError> {
+        let class = rule.class;
+        let extent = rule.extent;
+        let status = rule.status;
+        write!(page, "{e:>12}.{c} {class}{extent} {status}")?;
         if rule.codes > 0 {
-            out.extend_from_slice(b" one of ")?;
-            push_codes(out, book, n, e, c, rule.codes)?;
+            page.push_bytes(b" one of ")?;
         }
-        out.push(b'\n')?;
+        Ok(())
     }
-    Ok(())
-}
-
-fn push_layout<B: Book>(
-    heap: Global,
-    out: &mut Vec<u8>,
-    book: &B,
-    n: usize,
-) -> Result<(), AllocError> {
-    for e in 0..MOST_ELEMENTS {
-        let Some(rule) = book.element(n, e) else {
-            break;
-        };
-        push_element(heap, out, e, rule)?;
-        push_components(heap, out, book, n, e)?;
-    }
-    Ok(())
-}
-
-// The listing of a book.
-pub fn push_book<B: Book>(
-    heap: Global,
-    out: &mut Vec<u8>,
-    book: &B,
-    detail: Detail,
-) -> Result<(), AllocError> {
-    push_identifier(out, book)?;
-    for n in 0..book.row_count() {
-        let Some(row) = book.row(n) else {
-            break;
-        };
-        push_row(heap, out, n, row)?;
-        match detail {
-            Detail::Rows => {}
-            Detail::Layouts => push_layout(heap, out, book, n)?,
-        }
-    }
-    Ok(())
 }

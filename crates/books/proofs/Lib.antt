@@ -1,2 +1,2 @@
-pub mod Lookups
+pub mod Clear
 pub mod Trials

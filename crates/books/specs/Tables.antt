@@ -1,33 +1,30 @@
--- What flat tables mean: a span is the lines that it names, as many as there are.
-use Rattle.std.specs.Prelude.{ℕ, List, map, take, drop}
+-- What a table means.
+use Rattle.std.specs.Prelude.{ℕ, List, ◌++◌, map}
 use Rattle.message.specs.Layouts.{Component, Element, Layout}
 use Rattle.message.specs.declared.row.Row.{Row}
 use Rattle.books.specs.declared.tables.RowLine.{RowLine}
-use Rattle.books.specs.declared.tables.Span.{Span}
 use Rattle.books.specs.declared.tables.ElementLine.{ElementLine}
 use Rattle.books.specs.declared.tables.ComponentLine.{ComponentLine}
-use Rattle.books.specs.declared.tables.Tables.{Tables}
+use Rattle.books.specs.declared.tables.Table.{Table}
 
-abbrev pub part : {X : Type 0} → List X → Span → List X
-part xs s = take s.1 (drop s.0 xs)
+abbrev pub component_of : ComponentLine → Component
+component_of c = record { class = c.class; extent = c.extent; status = c.status; codes = map (λ k. k.now) c.codes.now }
 
-abbrev pub row_of : RowLine → Row
-row_of r = record { tag = r.0; level = r.1; kind = r.2; need = r.3; limit = r.4 }
+abbrev pub element_of : ElementLine → Element
+element_of e = record { status = e.status; components = map component_of e.components.now }
 
-abbrev pub rows_of : Tables → List Row
-rows_of t = map row_of t.rows.now
+abbrev pub layout_of : RowLine → Layout
+layout_of r = map element_of r.layout.now
 
-abbrev pub component_of : Tables → ComponentLine → Component
-component_of t c = record { class = c.0; extent = c.1; status = c.2; codes = map (part t.letters.now) (part t.codes.now c.3) }
+-- the header section's lines come first
+abbrev pub lines_of : Table → List RowLine
+lines_of t = t.header.now ++ t.detail.now
 
-abbrev pub element_of : Tables → ElementLine → Element
-element_of t e = record { status = e.0; components = map (component_of t) (part t.components.now e.1) }
+abbrev pub rows_of : Table → List Row
+rows_of t = map (λ r. r.row) (lines_of t)
 
-abbrev pub layout_of : Tables → Span → Layout
-layout_of t s = map (element_of t) (part t.elements.now s)
+abbrev pub layouts_of : Table → List Layout
+layouts_of t = map layout_of (lines_of t)
 
-abbrev pub layouts_of : Tables → List Layout
-layouts_of t = map (layout_of t) t.layouts.now
-
-abbrev pub identifier_of : Tables → List (List ℕ)
-identifier_of t = map (part t.letters.now) t.identifier.now
+abbrev pub identifier_of : Table → List (List ℕ)
+identifier_of t = map (λ p. p.now) t.identifier.now

@@ -4,3 +4,5 @@
 pub mod recadv;
 mod tables;
 pub mod trial;
+
+pub use tables::TableBook;

@@ -1,694 +1,403 @@
-// The built-in book: RECADV.
-ghost use Rattle.std.specs.Prelude.{◌≡◌, true, refl};
+// The receiving advice RECADV.
+ghost use Rattle.std.specs.Prelude.{◌≡◌, true};
 ghost use Rattle.message.specs.Following.{followers_differ};
 ghost use Rattle.message.specs.Rows.{ClearRows};
 ghost use Rattle.message.specs.Messages.{Clear};
-ghost use Rattle.books.specs.Tables.{rows_of, layouts_of, identifier_of};
 ghost use Rattle.books.specs.RecadvExamples.{recadv, examples_fit};
 ghost use Rattle.books.specs.Recadv.{recadv_rows, recadv_layouts, recadv_identifier};
-ghost use Rattle.message.proofs.RowTests.{rows_keep_rules};
 
-use crate::tables::{ComponentLine, ElementLine, RowLine, Span, Tables};
+use crate::tables::{RowLine, Table, TableBook, an, element, num, row};
 use message::book::{Book, Diagram};
-use message::layout::{Class, ComponentRule, ElementRule, Extent};
-use message::row::{Kind, Need, Row};
 
-static ROWS: [RowLine; 32] = [
-    RowLine(*b"UNH", 0, Kind::Plain, Need::Required, 1),
-    RowLine(*b"BGM", 0, Kind::Plain, Need::Required, 1),
-    RowLine(*b"DTM", 0, Kind::Plain, Need::Required, 10),
-    RowLine(*b"FTX", 0, Kind::Plain, Need::Optional, 99),
-    RowLine(*b"RFF", 1, Kind::Trigger, Need::Optional, 10),
-    RowLine(*b"DTM", 1, Kind::Plain, Need::Optional, 1),
-    RowLine(*b"NAD", 1, Kind::Trigger, Need::Required, 99),
-    RowLine(*b"RFF", 2, Kind::Trigger, Need::Optional, 10),
-    RowLine(*b"CTA", 2, Kind::Trigger, Need::Optional, 10),
-    RowLine(*b"COM", 2, Kind::Plain, Need::Optional, 5),
-    RowLine(*b"TDT", 1, Kind::Trigger, Need::Optional, 10),
-    RowLine(*b"EQD", 1, Kind::Trigger, Need::Optional, 9999),
-    RowLine(*b"SEL", 2, Kind::Trigger, Need::Optional, 25),
-    RowLine(*b"CDI", 2, Kind::Plain, Need::Required, 10),
-    RowLine(*b"CPS", 1, Kind::Trigger, Need::Optional, 9999),
-    RowLine(*b"PAC", 2, Kind::Trigger, Need::Optional, 9999),
-    RowLine(*b"QVR", 2, Kind::Plain, Need::Optional, 1),
-    RowLine(*b"PCI", 3, Kind::Trigger, Need::Optional, 999),
-    RowLine(*b"GIN", 4, Kind::Trigger, Need::Optional, 999),
-    RowLine(*b"LIN", 2, Kind::Trigger, Need::Optional, 9999),
-    RowLine(*b"PIA", 2, Kind::Plain, Need::Optional, 10),
-    RowLine(*b"QTY", 2, Kind::Plain, Need::Optional, 10),
-    RowLine(*b"QVR", 2, Kind::Plain, Need::Optional, 10),
-    RowLine(*b"DTM", 2, Kind::Plain, Need::Optional, 5),
-    RowLine(*b"RFF", 3, Kind::Trigger, Need::Optional, 10),
-    RowLine(*b"DTM", 3, Kind::Plain, Need::Optional, 1),
-    RowLine(*b"PCI", 3, Kind::Trigger, Need::Optional, 9999),
-    RowLine(*b"QTY", 3, Kind::Plain, Need::Optional, 1),
-    RowLine(*b"QVR", 3, Kind::Plain, Need::Optional, 1),
-    RowLine(*b"GIN", 4, Kind::Trigger, Need::Optional, 10),
-    RowLine(*b"CNT", 0, Kind::Plain, Need::Optional, 1),
-    RowLine(*b"UNT", 0, Kind::Plain, Need::Required, 1),
-];
-
-static LAYOUTS: [Span; 32] = [
-    Span(0, 0),
-    Span(0, 4),
-    Span(4, 1),
-    Span(5, 6),
-    Span(11, 1),
-    Span(12, 1),
-    Span(13, 9),
-    Span(22, 1),
-    Span(23, 2),
-    Span(25, 1),
-    Span(26, 9),
-    Span(35, 6),
-    Span(41, 4),
-    Span(45, 2),
-    Span(47, 3),
-    Span(50, 5),
-    Span(55, 3),
-    Span(58, 4),
-    Span(62, 6),
-    Span(68, 6),
-    Span(74, 6),
-    Span(80, 1),
-    Span(81, 3),
-    Span(84, 1),
-    Span(85, 1),
-    Span(86, 1),
-    Span(87, 4),
-    Span(91, 1),
-    Span(92, 3),
-    Span(95, 6),
-    Span(101, 1),
-    Span(102, 0),
-];
-
-static ELEMENTS: [ElementLine; 102] = [
+// The header section.
+static HEADER: [RowLine; 14] = [
+    // 0 UNH
+    RowLine {
+        row: row!(b"UNH", 0, Plain, Required, 1),
+        layout: &[],
+    },
     // 1 BGM
-    ElementLine('R', Span(0, 4)),
-    ElementLine('R', Span(4, 3)),
-    ElementLine('R', Span(7, 1)),
-    ElementLine('N', Span(8, 1)),
+    RowLine {
+        row: row!(b"BGM", 0, Plain, Required, 1),
+        layout: &[
+            // C002
+            element!('R': an!(3, 'R', ["632"]), an!(17, 'N'), an!(3, 'N'), an!(35, 'O')),
+            // C106
+            element!('R': an!(35, 'R'), an!(9, 'N'), an!(6, 'N')),
+            element!('R': an!(3, 'R', ["5", "9", "31", "27", "29"])),
+            element!('N': an!(3, 'N')),
+        ],
+    },
     // 2 DTM
-    ElementLine('M', Span(9, 3)),
+    RowLine {
+        row: row!(b"DTM", 0, Plain, Required, 10),
+        layout: &[
+            // C507
+            element!('M':
+                an!(3, 'M', ["35", "50", "137", "200", "369", "772", "773", "774", "98E"]),
+                an!(35, 'R'), an!(3, 'R')
+            ),
+        ],
+    },
     // 3 FTX
-    ElementLine('M', Span(12, 1)),
-    ElementLine('O', Span(13, 1)),
-    ElementLine('D', Span(14, 3)),
-    ElementLine('D', Span(17, 5)),
-    ElementLine('D', Span(22, 1)),
-    ElementLine('N', Span(23, 1)),
+    RowLine {
+        row: row!(b"FTX", 0, Plain, Optional, 99),
+        layout: &[
+            element!('M': an!(3, 'M')),
+            element!('O': an!(3, 'O', ["1", "3"])),
+            // C107
+            element!('D': an!(17, 'M'), an!(17, 'O'), an!(3, 'D')),
+            // C108
+            element!('D': an!(512, 'M'), an!(512, 'O'), an!(512, 'O'), an!(512, 'O'), an!(512, 'O')),
+            element!('D': an!(3, 'D')),
+            element!('N': an!(3, 'N')),
+        ],
+    },
     // 4 RFF
-    ElementLine('M', Span(24, 5)),
+    RowLine {
+        row: row!(b"RFF", 1, Trigger, Optional, 10),
+        layout: &[
+            // C506
+            element!('M': an!(3, 'M'), an!(70, 'R'), an!(6, 'N'), an!(35, 'N'), an!(6, 'N')),
+        ],
+    },
     // 5 DTM
-    ElementLine('M', Span(29, 3)),
+    RowLine {
+        row: row!(b"DTM", 1, Plain, Optional, 1),
+        layout: &[
+            // C507
+            element!('M': an!(3, 'M', ["171"]), an!(35, 'R'), an!(3, 'R')),
+        ],
+    },
     // 6 NAD
-    ElementLine('M', Span(32, 1)),
-    ElementLine('A', Span(33, 3)),
-    ElementLine('N', Span(36, 5)),
-    ElementLine('D', Span(41, 6)),
-    ElementLine('D', Span(47, 4)),
-    ElementLine('D', Span(51, 1)),
-    ElementLine('D', Span(52, 4)),
-    ElementLine('D', Span(56, 1)),
-    ElementLine('D', Span(57, 1)),
+    RowLine {
+        row: row!(b"NAD", 1, Trigger, Required, 99),
+        layout: &[
+            element!('M': an!(3, 'M')),
+            // C082
+            element!('A': an!(35, 'M'), an!(17, 'N'), an!(3, 'R', ["9"])),
+            // C058
+            element!('N': an!(35, 'M'), an!(35, 'C'), an!(35, 'C'), an!(35, 'C'), an!(35, 'C')),
+            // C080
+            element!('D': an!(35, 'M'), an!(35, 'O'), an!(35, 'O'), an!(35, 'O'), an!(35, 'O'), an!(3, 'O')),
+            // C059
+            element!('D': an!(35, 'M'), an!(35, 'O'), an!(35, 'O'), an!(35, 'O')),
+            element!('D': an!(35, 'D')),
+            // C819
+            element!('D': an!(9, 'O'), an!(17, 'O'), an!(3, 'O'), an!(70, 'O')),
+            element!('D': an!(17, 'D')),
+            element!('D': an!(3, 'D')),
+        ],
+    },
     // 7 RFF
-    ElementLine('M', Span(58, 5)),
+    RowLine {
+        row: row!(b"RFF", 2, Trigger, Optional, 10),
+        layout: &[
+            // C506
+            element!('M': an!(3, 'M', ["YC1", "FC", "GN", "VA"]), an!(70, 'R'), an!(6, 'N'), an!(35, 'N'), an!(6, 'N')),
+        ],
+    },
     // 8 CTA
-    ElementLine('R', Span(63, 1)),
-    ElementLine('O', Span(64, 2)),
+    RowLine {
+        row: row!(b"CTA", 2, Trigger, Optional, 10),
+        layout: &[
+            element!('R': an!(3, 'R')),
+            // C056
+            element!('O': an!(17, 'O'), an!(35, 'O')),
+        ],
+    },
     // 9 COM
-    ElementLine('M', Span(66, 2)),
+    RowLine {
+        row: row!(b"COM", 2, Plain, Optional, 5),
+        layout: &[
+            // C076
+            element!('M': an!(512, 'M'), an!(3, 'M')),
+        ],
+    },
     // 10 TDT
-    ElementLine('M', Span(68, 1)),
-    ElementLine('O', Span(69, 1)),
-    ElementLine('A', Span(70, 2)),
-    ElementLine('O', Span(72, 2)),
-    ElementLine('O', Span(74, 4)),
-    ElementLine('O', Span(78, 1)),
-    ElementLine('N', Span(79, 3)),
-    ElementLine('O', Span(82, 5)),
-    ElementLine('N', Span(87, 1)),
+    RowLine {
+        row: row!(b"TDT", 1, Trigger, Optional, 10),
+        layout: &[
+            element!('M': an!(3, 'M')),
+            element!('O': an!(17, 'O')),
+            // C220
+            element!('A': an!(3, 'R'), an!(17, 'N')),
+            // C228
+            element!('O': an!(8, 'D'), an!(17, 'D')),
+            // C040
+            element!('O': an!(17, 'A'), an!(17, 'O'), an!(3, 'D'), an!(35, 'O')),
+            element!('O': an!(3, 'O')),
+            // C401
+            element!('N': an!(3, 'M'), an!(3, 'M'), an!(17, 'C')),
+            // C222
+            element!('O': an!(9, 'O'), an!(17, 'O'), an!(3, 'D'), an!(35, 'R'), an!(3, 'O')),
+            element!('N': an!(3, 'N')),
+        ],
+    },
     // 11 EQD
-    ElementLine('M', Span(88, 1)),
-    ElementLine('O', Span(89, 4)),
-    ElementLine('O', Span(93, 4)),
-    ElementLine('O', Span(97, 1)),
-    ElementLine('O', Span(98, 1)),
-    ElementLine('O', Span(99, 1)),
+    RowLine {
+        row: row!(b"EQD", 1, Trigger, Optional, 9999),
+        layout: &[
+            element!('M': an!(3, 'M')),
+            // C237
+            element!('O': an!(17, 'A'), an!(17, 'O'), an!(3, 'D'), an!(3, 'O')),
+            // C224
+            element!('O': an!(10, 'O'), an!(17, 'O'), an!(3, 'D'), an!(35, 'O')),
+            element!('O': an!(3, 'O')),
+            element!('O': an!(3, 'O')),
+            element!('O': an!(3, 'O')),
+        ],
+    },
     // 12 SEL
-    ElementLine('R', Span(100, 1)),
-    ElementLine('R', Span(101, 4)),
-    ElementLine('N', Span(105, 1)),
-    ElementLine('N', Span(106, 2)),
+    RowLine {
+        row: row!(b"SEL", 2, Trigger, Optional, 25),
+        layout: &[
+            element!('R': an!(35, 'R')),
+            // C215
+            element!('R': an!(3, 'R'), an!(17, 'O'), an!(3, 'D'), an!(35, 'O')),
+            element!('N': an!(3, 'N')),
+            // C208
+            element!('N': an!(35, 'M'), an!(35, 'C')),
+        ],
+    },
     // 13 CDI
-    ElementLine('M', Span(108, 1)),
-    ElementLine('M', Span(109, 4)),
+    RowLine {
+        row: row!(b"CDI", 2, Plain, Required, 10),
+        layout: &[
+            element!('M': an!(3, 'M', ["1"])),
+            // C564
+            element!('M': an!(3, 'R'), an!(17, 'O'), an!(3, 'D'), an!(70, 'O')),
+        ],
+    },
+];
+
+// The detail section, and the summary section behind it.
+static DETAIL: [RowLine; 18] = [
     // 14 CPS
-    ElementLine('M', Span(113, 1)),
-    ElementLine('A', Span(114, 1)),
-    ElementLine('N', Span(115, 1)),
+    RowLine {
+        row: row!(b"CPS", 1, Trigger, Optional, 9999),
+        layout: &[
+            element!('M': an!(35, 'M')),
+            element!('A': an!(35, 'A')),
+            element!('N': an!(3, 'N')),
+        ],
+    },
     // 15 PAC
-    ElementLine('D', Span(116, 1)),
-    ElementLine('C', Span(117, 3)),
-    ElementLine('O', Span(120, 4)),
-    ElementLine('N', Span(124, 5)),
-    ElementLine('D', Span(129, 2)),
+    RowLine {
+        row: row!(b"PAC", 2, Trigger, Optional, 9999),
+        layout: &[
+            element!('D': num!(8, 'D')),
+            // C531
+            element!('C': an!(3, 'C'), an!(3, 'O'), an!(3, 'O')),
+            // C202
+            element!('O': an!(17, 'A'), an!(17, 'O'), an!(3, 'D'), an!(35, 'O')),
+            // C402
+            element!('N': an!(3, 'M'), an!(35, 'M'), an!(3, 'C'), an!(35, 'C'), an!(3, 'C')),
+            // C532
+            element!('D': an!(3, 'O'), an!(3, 'N')),
+        ],
+    },
     // 16 QVR
-    ElementLine('R', Span(131, 2)),
-    ElementLine('O', Span(133, 1)),
-    ElementLine('O', Span(134, 4)),
+    RowLine {
+        row: row!(b"QVR", 2, Plain, Optional, 1),
+        layout: &[
+            // C279
+            element!('R': num!(15, 'M'), an!(3, 'R')),
+            element!('O': an!(3, 'O')),
+            // C960
+            element!('O': an!(3, 'O'), an!(17, 'O'), an!(3, 'D'), an!(35, 'O')),
+        ],
+    },
     // 17 PCI
-    ElementLine('R', Span(138, 1)),
-    ElementLine('O', Span(139, 9)),
-    ElementLine('N', Span(148, 1)),
-    ElementLine('N', Span(149, 3)),
+    RowLine {
+        row: row!(b"PCI", 3, Trigger, Optional, 999),
+        layout: &[
+            element!('R': an!(3, 'R')),
+            // C210
+            element!('O':
+                an!(35, 'M'), an!(35, 'O'), an!(35, 'O'), an!(35, 'O'), an!(35, 'O'), an!(35, 'O'),
+                an!(35, 'O'), an!(35, 'O'), an!(35, 'O')
+            ),
+            element!('N': an!(3, 'N')),
+            // C827
+            element!('N': an!(3, 'M'), an!(17, 'C'), an!(3, 'C')),
+        ],
+    },
     // 18 GIN
-    ElementLine('M', Span(152, 1)),
-    ElementLine('M', Span(153, 2)),
-    ElementLine('O', Span(155, 2)),
-    ElementLine('O', Span(157, 2)),
-    ElementLine('O', Span(159, 2)),
-    ElementLine('O', Span(161, 2)),
+    RowLine {
+        row: row!(b"GIN", 4, Trigger, Optional, 999),
+        layout: &[
+            element!('M': an!(3, 'M')),
+            // C208
+            element!('M': an!(35, 'M'), an!(35, 'O')),
+            // C208
+            element!('O': an!(35, 'M'), an!(35, 'O')),
+            // C208
+            element!('O': an!(35, 'M'), an!(35, 'O')),
+            // C208
+            element!('O': an!(35, 'M'), an!(35, 'O')),
+            // C208
+            element!('O': an!(35, 'M'), an!(35, 'O')),
+        ],
+    },
     // 19 LIN
-    ElementLine('R', Span(163, 1)),
-    ElementLine('N', Span(164, 1)),
-    ElementLine('D', Span(165, 4)),
-    ElementLine('D', Span(169, 2)),
-    ElementLine('N', Span(171, 1)),
-    ElementLine('N', Span(172, 1)),
+    RowLine {
+        row: row!(b"LIN", 2, Trigger, Optional, 9999),
+        layout: &[
+            element!('R': an!(6, 'R')),
+            element!('N': an!(3, 'N')),
+            // C212
+            element!('D': an!(35, 'R'), an!(3, 'R', ["SRV"]), an!(17, 'N'), an!(3, 'N')),
+            // C829
+            element!('D': an!(3, 'R', ["1"]), an!(6, 'R')),
+            element!('N': num!(2, 'N')),
+            element!('N': an!(3, 'N')),
+        ],
+    },
     // 20 PIA
-    ElementLine('M', Span(173, 1)),
-    ElementLine('M', Span(174, 4)),
-    ElementLine('O', Span(178, 4)),
-    ElementLine('O', Span(182, 4)),
-    ElementLine('O', Span(186, 4)),
-    ElementLine('O', Span(190, 4)),
+    RowLine {
+        row: row!(b"PIA", 2, Plain, Optional, 10),
+        layout: &[
+            element!('M': an!(3, 'M', ["1", "5"])),
+            // C212
+            element!('M': an!(35, 'R'), an!(3, 'R'), an!(17, 'O'), an!(3, 'D')),
+            // C212
+            element!('O': an!(35, 'R'), an!(3, 'R'), an!(17, 'O'), an!(3, 'D')),
+            // C212
+            element!('O': an!(35, 'R'), an!(3, 'R'), an!(17, 'O'), an!(3, 'D')),
+            // C212
+            element!('O': an!(35, 'R'), an!(3, 'R'), an!(17, 'O'), an!(3, 'D')),
+            // C212
+            element!('O': an!(35, 'R'), an!(3, 'R'), an!(17, 'O'), an!(3, 'D')),
+        ],
+    },
     // 21 QTY
-    ElementLine('M', Span(194, 3)),
+    RowLine {
+        row: row!(b"QTY", 2, Plain, Optional, 10),
+        layout: &[
+            // C186
+            element!('M': an!(3, 'M', ["12", "21", "46", "48", "59", "66", "192", "194"]), an!(35, 'M'), an!(3, 'D')),
+        ],
+    },
     // 22 QVR
-    ElementLine('R', Span(197, 2)),
-    ElementLine('O', Span(199, 1)),
-    ElementLine('O', Span(200, 4)),
+    RowLine {
+        row: row!(b"QVR", 2, Plain, Optional, 10),
+        layout: &[
+            // C279
+            element!('R': num!(15, 'M'), an!(3, 'R')),
+            element!('O': an!(3, 'O')),
+            // C960
+            element!('O': an!(3, 'R'), an!(17, 'O'), an!(3, 'D'), an!(35, 'O')),
+        ],
+    },
     // 23 DTM
-    ElementLine('M', Span(204, 3)),
+    RowLine {
+        row: row!(b"DTM", 2, Plain, Optional, 5),
+        layout: &[
+            // C507
+            element!('M': an!(3, 'M'), an!(35, 'R'), an!(3, 'R')),
+        ],
+    },
     // 24 RFF
-    ElementLine('M', Span(207, 5)),
+    RowLine {
+        row: row!(b"RFF", 3, Trigger, Optional, 10),
+        layout: &[
+            // C506
+            element!('M': an!(3, 'M'), an!(70, 'R'), an!(6, 'O'), an!(35, 'N'), an!(6, 'N')),
+        ],
+    },
     // 25 DTM
-    ElementLine('M', Span(212, 3)),
+    RowLine {
+        row: row!(b"DTM", 3, Plain, Optional, 1),
+        layout: &[
+            // C507
+            element!('M': an!(3, 'M', ["171"]), an!(35, 'R'), an!(3, 'R')),
+        ],
+    },
     // 26 PCI
-    ElementLine('O', Span(215, 1)),
-    ElementLine('O', Span(216, 9)),
-    ElementLine('N', Span(225, 1)),
-    ElementLine('N', Span(226, 3)),
+    RowLine {
+        row: row!(b"PCI", 3, Trigger, Optional, 9999),
+        layout: &[
+            element!('O': an!(3, 'O')),
+            // C210
+            element!('O':
+                an!(35, 'M'), an!(35, 'O'), an!(35, 'O'), an!(35, 'O'), an!(35, 'O'), an!(35, 'O'),
+                an!(35, 'O'), an!(35, 'O'), an!(35, 'O')
+            ),
+            element!('N': an!(3, 'N')),
+            // C827
+            element!('N': an!(3, 'M'), an!(17, 'C'), an!(3, 'C')),
+        ],
+    },
     // 27 QTY
-    ElementLine('M', Span(229, 3)),
+    RowLine {
+        row: row!(b"QTY", 3, Plain, Optional, 1),
+        layout: &[
+            // C186
+            element!('M': an!(3, 'M', ["194"]), an!(35, 'M'), an!(3, 'D')),
+        ],
+    },
     // 28 QVR
-    ElementLine('R', Span(232, 2)),
-    ElementLine('O', Span(234, 1)),
-    ElementLine('O', Span(235, 4)),
+    RowLine {
+        row: row!(b"QVR", 3, Plain, Optional, 1),
+        layout: &[
+            // C279
+            element!('R': num!(15, 'M'), an!(3, 'R')),
+            element!('O': an!(3, 'O')),
+            // C960
+            element!('O': an!(3, 'R'), an!(17, 'O'), an!(3, 'D'), an!(35, 'O')),
+        ],
+    },
     // 29 GIN
-    ElementLine('M', Span(239, 1)),
-    ElementLine('M', Span(240, 2)),
-    ElementLine('O', Span(242, 2)),
-    ElementLine('O', Span(244, 2)),
-    ElementLine('O', Span(246, 2)),
-    ElementLine('O', Span(248, 2)),
+    RowLine {
+        row: row!(b"GIN", 4, Trigger, Optional, 10),
+        layout: &[
+            element!('M': an!(3, 'M')),
+            // C208
+            element!('M': an!(35, 'M'), an!(35, 'O')),
+            // C208
+            element!('O': an!(35, 'M'), an!(35, 'O')),
+            // C208
+            element!('O': an!(35, 'M'), an!(35, 'O')),
+            // C208
+            element!('O': an!(35, 'M'), an!(35, 'O')),
+            // C208
+            element!('O': an!(35, 'M'), an!(35, 'O')),
+        ],
+    },
     // 30 CNT
-    ElementLine('M', Span(250, 3)),
+    RowLine {
+        row: row!(b"CNT", 0, Plain, Optional, 1),
+        layout: &[
+            // C270
+            element!('M': an!(3, 'M', ["2"]), num!(18, 'M'), an!(3, 'O')),
+        ],
+    },
+    // 31 UNT
+    RowLine {
+        row: row!(b"UNT", 0, Plain, Required, 1),
+        layout: &[],
+    },
 ];
-
-static COMPONENTS: [ComponentLine; 253] = [
-    // 1 BGM
-    // C002
-    ComponentLine(Class::Alphanumeric, Extent::AtMost(3), 'R', Span(0, 1)),
-    ComponentLine(Class::Alphanumeric, Extent::AtMost(17), 'N', Span(0, 0)),
-    ComponentLine(Class::Alphanumeric, Extent::AtMost(3), 'N', Span(0, 0)),
-    ComponentLine(Class::Alphanumeric, Extent::AtMost(35), 'O', Span(0, 0)),
-    // C106
-    ComponentLine(Class::Alphanumeric, Extent::AtMost(35), 'R', Span(0, 0)),
-    ComponentLine(Class::Alphanumeric, Extent::AtMost(9), 'N', Span(0, 0)),
-    ComponentLine(Class::Alphanumeric, Extent::AtMost(6), 'N', Span(0, 0)),
-    ComponentLine(Class::Alphanumeric, Extent::AtMost(3), 'R', Span(1, 5)),
-    ComponentLine(Class::Alphanumeric, Extent::AtMost(3), 'N', Span(0, 0)),
-    // 2 DTM
-    // C507
-    ComponentLine(Class::Alphanumeric, Extent::AtMost(3), 'M', Span(6, 9)),
-    ComponentLine(Class::Alphanumeric, Extent::AtMost(35), 'R', Span(0, 0)),
-    ComponentLine(Class::Alphanumeric, Extent::AtMost(3), 'R', Span(0, 0)),
-    // 3 FTX
-    ComponentLine(Class::Alphanumeric, Extent::AtMost(3), 'M', Span(0, 0)),
-    ComponentLine(Class::Alphanumeric, Extent::AtMost(3), 'O', Span(15, 2)),
-    // C107
-    ComponentLine(Class::Alphanumeric, Extent::AtMost(17), 'M', Span(0, 0)),
-    ComponentLine(Class::Alphanumeric, Extent::AtMost(17), 'O', Span(0, 0)),
-    ComponentLine(Class::Alphanumeric, Extent::AtMost(3), 'D', Span(0, 0)),
-    // C108
-    ComponentLine(Class::Alphanumeric, Extent::AtMost(512), 'M', Span(0, 0)),
-    ComponentLine(Class::Alphanumeric, Extent::AtMost(512), 'O', Span(0, 0)),
-    ComponentLine(Class::Alphanumeric, Extent::AtMost(512), 'O', Span(0, 0)),
-    ComponentLine(Class::Alphanumeric, Extent::AtMost(512), 'O', Span(0, 0)),
-    ComponentLine(Class::Alphanumeric, Extent::AtMost(512), 'O', Span(0, 0)),
-    ComponentLine(Class::Alphanumeric, Extent::AtMost(3), 'D', Span(0, 0)),
-    ComponentLine(Class::Alphanumeric, Extent::AtMost(3), 'N', Span(0, 0)),
-    // 4 RFF
-    // C506
-    ComponentLine(Class::Alphanumeric, Extent::AtMost(3), 'M', Span(0, 0)),
-    ComponentLine(Class::Alphanumeric, Extent::AtMost(70), 'R', Span(0, 0)),
-    ComponentLine(Class::Alphanumeric, Extent::AtMost(6), 'N', Span(0, 0)),
-    ComponentLine(Class::Alphanumeric, Extent::AtMost(35), 'N', Span(0, 0)),
-    ComponentLine(Class::Alphanumeric, Extent::AtMost(6), 'N', Span(0, 0)),
-    // 5 DTM
-    // C507
-    ComponentLine(Class::Alphanumeric, Extent::AtMost(3), 'M', Span(17, 1)),
-    ComponentLine(Class::Alphanumeric, Extent::AtMost(35), 'R', Span(0, 0)),
-    ComponentLine(Class::Alphanumeric, Extent::AtMost(3), 'R', Span(0, 0)),
-    // 6 NAD
-    ComponentLine(Class::Alphanumeric, Extent::AtMost(3), 'M', Span(0, 0)),
-    // C082
-    ComponentLine(Class::Alphanumeric, Extent::AtMost(35), 'M', Span(0, 0)),
-    ComponentLine(Class::Alphanumeric, Extent::AtMost(17), 'N', Span(0, 0)),
-    ComponentLine(Class::Alphanumeric, Extent::AtMost(3), 'R', Span(18, 1)),
-    // C058
-    ComponentLine(Class::Alphanumeric, Extent::AtMost(35), 'M', Span(0, 0)),
-    ComponentLine(Class::Alphanumeric, Extent::AtMost(35), 'C', Span(0, 0)),
-    ComponentLine(Class::Alphanumeric, Extent::AtMost(35), 'C', Span(0, 0)),
-    ComponentLine(Class::Alphanumeric, Extent::AtMost(35), 'C', Span(0, 0)),
-    ComponentLine(Class::Alphanumeric, Extent::AtMost(35), 'C', Span(0, 0)),
-    // C080
-    ComponentLine(Class::Alphanumeric, Extent::AtMost(35), 'M', Span(0, 0)),
-    ComponentLine(Class::Alphanumeric, Extent::AtMost(35), 'O', Span(0, 0)),
-    ComponentLine(Class::Alphanumeric, Extent::AtMost(35), 'O', Span(0, 0)),
-    ComponentLine(Class::Alphanumeric, Extent::AtMost(35), 'O', Span(0, 0)),
-    ComponentLine(Class::Alphanumeric, Extent::AtMost(35), 'O', Span(0, 0)),
-    ComponentLine(Class::Alphanumeric, Extent::AtMost(3), 'O', Span(0, 0)),
-    // C059
-    ComponentLine(Class::Alphanumeric, Extent::AtMost(35), 'M', Span(0, 0)),
-    ComponentLine(Class::Alphanumeric, Extent::AtMost(35), 'O', Span(0, 0)),
-    ComponentLine(Class::Alphanumeric, Extent::AtMost(35), 'O', Span(0, 0)),
-    ComponentLine(Class::Alphanumeric, Extent::AtMost(35), 'O', Span(0, 0)),
-    ComponentLine(Class::Alphanumeric, Extent::AtMost(35), 'D', Span(0, 0)),
-    // C819
-    ComponentLine(Class::Alphanumeric, Extent::AtMost(9), 'O', Span(0, 0)),
-    ComponentLine(Class::Alphanumeric, Extent::AtMost(17), 'O', Span(0, 0)),
-    ComponentLine(Class::Alphanumeric, Extent::AtMost(3), 'O', Span(0, 0)),
-    ComponentLine(Class::Alphanumeric, Extent::AtMost(70), 'O', Span(0, 0)),
-    ComponentLine(Class::Alphanumeric, Extent::AtMost(17), 'D', Span(0, 0)),
-    ComponentLine(Class::Alphanumeric, Extent::AtMost(3), 'D', Span(0, 0)),
-    // 7 RFF
-    // C506
-    ComponentLine(Class::Alphanumeric, Extent::AtMost(3), 'M', Span(19, 4)),
-    ComponentLine(Class::Alphanumeric, Extent::AtMost(70), 'R', Span(0, 0)),
-    ComponentLine(Class::Alphanumeric, Extent::AtMost(6), 'N', Span(0, 0)),
-    ComponentLine(Class::Alphanumeric, Extent::AtMost(35), 'N', Span(0, 0)),
-    ComponentLine(Class::Alphanumeric, Extent::AtMost(6), 'N', Span(0, 0)),
-    // 8 CTA
-    ComponentLine(Class::Alphanumeric, Extent::AtMost(3), 'R', Span(0, 0)),
-    // C056
-    ComponentLine(Class::Alphanumeric, Extent::AtMost(17), 'O', Span(0, 0)),
-    ComponentLine(Class::Alphanumeric, Extent::AtMost(35), 'O', Span(0, 0)),
-    // 9 COM
-    // C076
-    ComponentLine(Class::Alphanumeric, Extent::AtMost(512), 'M', Span(0, 0)),
-    ComponentLine(Class::Alphanumeric, Extent::AtMost(3), 'M', Span(0, 0)),
-    // 10 TDT
-    ComponentLine(Class::Alphanumeric, Extent::AtMost(3), 'M', Span(0, 0)),
-    ComponentLine(Class::Alphanumeric, Extent::AtMost(17), 'O', Span(0, 0)),
-    // C220
-    ComponentLine(Class::Alphanumeric, Extent::AtMost(3), 'R', Span(0, 0)),
-    ComponentLine(Class::Alphanumeric, Extent::AtMost(17), 'N', Span(0, 0)),
-    // C228
-    ComponentLine(Class::Alphanumeric, Extent::AtMost(8), 'D', Span(0, 0)),
-    ComponentLine(Class::Alphanumeric, Extent::AtMost(17), 'D', Span(0, 0)),
-    // C040
-    ComponentLine(Class::Alphanumeric, Extent::AtMost(17), 'A', Span(0, 0)),
-    ComponentLine(Class::Alphanumeric, Extent::AtMost(17), 'O', Span(0, 0)),
-    ComponentLine(Class::Alphanumeric, Extent::AtMost(3), 'D', Span(0, 0)),
-    ComponentLine(Class::Alphanumeric, Extent::AtMost(35), 'O', Span(0, 0)),
-    ComponentLine(Class::Alphanumeric, Extent::AtMost(3), 'O', Span(0, 0)),
-    // C401
-    ComponentLine(Class::Alphanumeric, Extent::AtMost(3), 'M', Span(0, 0)),
-    ComponentLine(Class::Alphanumeric, Extent::AtMost(3), 'M', Span(0, 0)),
-    ComponentLine(Class::Alphanumeric, Extent::AtMost(17), 'C', Span(0, 0)),
-    // C222
-    ComponentLine(Class::Alphanumeric, Extent::AtMost(9), 'O', Span(0, 0)),
-    ComponentLine(Class::Alphanumeric, Extent::AtMost(17), 'O', Span(0, 0)),
-    ComponentLine(Class::Alphanumeric, Extent::AtMost(3), 'D', Span(0, 0)),
-    ComponentLine(Class::Alphanumeric, Extent::AtMost(35), 'R', Span(0, 0)),
-    ComponentLine(Class::Alphanumeric, Extent::AtMost(3), 'O', Span(0, 0)),
-    ComponentLine(Class::Alphanumeric, Extent::AtMost(3), 'N', Span(0, 0)),
-    // 11 EQD
-    ComponentLine(Class::Alphanumeric, Extent::AtMost(3), 'M', Span(0, 0)),
-    // C237
-    ComponentLine(Class::Alphanumeric, Extent::AtMost(17), 'A', Span(0, 0)),
-    ComponentLine(Class::Alphanumeric, Extent::AtMost(17), 'O', Span(0, 0)),
-    ComponentLine(Class::Alphanumeric, Extent::AtMost(3), 'D', Span(0, 0)),
-    ComponentLine(Class::Alphanumeric, Extent::AtMost(3), 'O', Span(0, 0)),
-    // C224
-    ComponentLine(Class::Alphanumeric, Extent::AtMost(10), 'O', Span(0, 0)),
-    ComponentLine(Class::Alphanumeric, Extent::AtMost(17), 'O', Span(0, 0)),
-    ComponentLine(Class::Alphanumeric, Extent::AtMost(3), 'D', Span(0, 0)),
-    ComponentLine(Class::Alphanumeric, Extent::AtMost(35), 'O', Span(0, 0)),
-    ComponentLine(Class::Alphanumeric, Extent::AtMost(3), 'O', Span(0, 0)),
-    ComponentLine(Class::Alphanumeric, Extent::AtMost(3), 'O', Span(0, 0)),
-    ComponentLine(Class::Alphanumeric, Extent::AtMost(3), 'O', Span(0, 0)),
-    // 12 SEL
-    ComponentLine(Class::Alphanumeric, Extent::AtMost(35), 'R', Span(0, 0)),
-    // C215
-    ComponentLine(Class::Alphanumeric, Extent::AtMost(3), 'R', Span(0, 0)),
-    ComponentLine(Class::Alphanumeric, Extent::AtMost(17), 'O', Span(0, 0)),
-    ComponentLine(Class::Alphanumeric, Extent::AtMost(3), 'D', Span(0, 0)),
-    ComponentLine(Class::Alphanumeric, Extent::AtMost(35), 'O', Span(0, 0)),
-    ComponentLine(Class::Alphanumeric, Extent::AtMost(3), 'N', Span(0, 0)),
-    // C208
-    ComponentLine(Class::Alphanumeric, Extent::AtMost(35), 'M', Span(0, 0)),
-    ComponentLine(Class::Alphanumeric, Extent::AtMost(35), 'C', Span(0, 0)),
-    // 13 CDI
-    ComponentLine(Class::Alphanumeric, Extent::AtMost(3), 'M', Span(23, 1)),
-    // C564
-    ComponentLine(Class::Alphanumeric, Extent::AtMost(3), 'R', Span(0, 0)),
-    ComponentLine(Class::Alphanumeric, Extent::AtMost(17), 'O', Span(0, 0)),
-    ComponentLine(Class::Alphanumeric, Extent::AtMost(3), 'D', Span(0, 0)),
-    ComponentLine(Class::Alphanumeric, Extent::AtMost(70), 'O', Span(0, 0)),
-    // 14 CPS
-    ComponentLine(Class::Alphanumeric, Extent::AtMost(35), 'M', Span(0, 0)),
-    ComponentLine(Class::Alphanumeric, Extent::AtMost(35), 'A', Span(0, 0)),
-    ComponentLine(Class::Alphanumeric, Extent::AtMost(3), 'N', Span(0, 0)),
-    // 15 PAC
-    ComponentLine(Class::Numeric, Extent::AtMost(8), 'D', Span(0, 0)),
-    // C531
-    ComponentLine(Class::Alphanumeric, Extent::AtMost(3), 'C', Span(0, 0)),
-    ComponentLine(Class::Alphanumeric, Extent::AtMost(3), 'O', Span(0, 0)),
-    ComponentLine(Class::Alphanumeric, Extent::AtMost(3), 'O', Span(0, 0)),
-    // C202
-    ComponentLine(Class::Alphanumeric, Extent::AtMost(17), 'A', Span(0, 0)),
-    ComponentLine(Class::Alphanumeric, Extent::AtMost(17), 'O', Span(0, 0)),
-    ComponentLine(Class::Alphanumeric, Extent::AtMost(3), 'D', Span(0, 0)),
-    ComponentLine(Class::Alphanumeric, Extent::AtMost(35), 'O', Span(0, 0)),
-    // C402
-    ComponentLine(Class::Alphanumeric, Extent::AtMost(3), 'M', Span(0, 0)),
-    ComponentLine(Class::Alphanumeric, Extent::AtMost(35), 'M', Span(0, 0)),
-    ComponentLine(Class::Alphanumeric, Extent::AtMost(3), 'C', Span(0, 0)),
-    ComponentLine(Class::Alphanumeric, Extent::AtMost(35), 'C', Span(0, 0)),
-    ComponentLine(Class::Alphanumeric, Extent::AtMost(3), 'C', Span(0, 0)),
-    // C532
-    ComponentLine(Class::Alphanumeric, Extent::AtMost(3), 'O', Span(0, 0)),
-    ComponentLine(Class::Alphanumeric, Extent::AtMost(3), 'N', Span(0, 0)),
-    // 16 QVR
-    // C279
-    ComponentLine(Class::Numeric, Extent::AtMost(15), 'M', Span(0, 0)),
-    ComponentLine(Class::Alphanumeric, Extent::AtMost(3), 'R', Span(0, 0)),
-    ComponentLine(Class::Alphanumeric, Extent::AtMost(3), 'O', Span(0, 0)),
-    // C960
-    ComponentLine(Class::Alphanumeric, Extent::AtMost(3), 'O', Span(0, 0)),
-    ComponentLine(Class::Alphanumeric, Extent::AtMost(17), 'O', Span(0, 0)),
-    ComponentLine(Class::Alphanumeric, Extent::AtMost(3), 'D', Span(0, 0)),
-    ComponentLine(Class::Alphanumeric, Extent::AtMost(35), 'O', Span(0, 0)),
-    // 17 PCI
-    ComponentLine(Class::Alphanumeric, Extent::AtMost(3), 'R', Span(0, 0)),
-    // C210
-    ComponentLine(Class::Alphanumeric, Extent::AtMost(35), 'M', Span(0, 0)),
-    ComponentLine(Class::Alphanumeric, Extent::AtMost(35), 'O', Span(0, 0)),
-    ComponentLine(Class::Alphanumeric, Extent::AtMost(35), 'O', Span(0, 0)),
-    ComponentLine(Class::Alphanumeric, Extent::AtMost(35), 'O', Span(0, 0)),
-    ComponentLine(Class::Alphanumeric, Extent::AtMost(35), 'O', Span(0, 0)),
-    ComponentLine(Class::Alphanumeric, Extent::AtMost(35), 'O', Span(0, 0)),
-    ComponentLine(Class::Alphanumeric, Extent::AtMost(35), 'O', Span(0, 0)),
-    ComponentLine(Class::Alphanumeric, Extent::AtMost(35), 'O', Span(0, 0)),
-    ComponentLine(Class::Alphanumeric, Extent::AtMost(35), 'O', Span(0, 0)),
-    ComponentLine(Class::Alphanumeric, Extent::AtMost(3), 'N', Span(0, 0)),
-    // C827
-    ComponentLine(Class::Alphanumeric, Extent::AtMost(3), 'M', Span(0, 0)),
-    ComponentLine(Class::Alphanumeric, Extent::AtMost(17), 'C', Span(0, 0)),
-    ComponentLine(Class::Alphanumeric, Extent::AtMost(3), 'C', Span(0, 0)),
-    // 18 GIN
-    ComponentLine(Class::Alphanumeric, Extent::AtMost(3), 'M', Span(0, 0)),
-    // C208
-    ComponentLine(Class::Alphanumeric, Extent::AtMost(35), 'M', Span(0, 0)),
-    ComponentLine(Class::Alphanumeric, Extent::AtMost(35), 'O', Span(0, 0)),
-    // C208
-    ComponentLine(Class::Alphanumeric, Extent::AtMost(35), 'M', Span(0, 0)),
-    ComponentLine(Class::Alphanumeric, Extent::AtMost(35), 'O', Span(0, 0)),
-    // C208
-    ComponentLine(Class::Alphanumeric, Extent::AtMost(35), 'M', Span(0, 0)),
-    ComponentLine(Class::Alphanumeric, Extent::AtMost(35), 'O', Span(0, 0)),
-    // C208
-    ComponentLine(Class::Alphanumeric, Extent::AtMost(35), 'M', Span(0, 0)),
-    ComponentLine(Class::Alphanumeric, Extent::AtMost(35), 'O', Span(0, 0)),
-    // C208
-    ComponentLine(Class::Alphanumeric, Extent::AtMost(35), 'M', Span(0, 0)),
-    ComponentLine(Class::Alphanumeric, Extent::AtMost(35), 'O', Span(0, 0)),
-    // 19 LIN
-    ComponentLine(Class::Alphanumeric, Extent::AtMost(6), 'R', Span(0, 0)),
-    ComponentLine(Class::Alphanumeric, Extent::AtMost(3), 'N', Span(0, 0)),
-    // C212
-    ComponentLine(Class::Alphanumeric, Extent::AtMost(35), 'R', Span(0, 0)),
-    ComponentLine(Class::Alphanumeric, Extent::AtMost(3), 'R', Span(24, 1)),
-    ComponentLine(Class::Alphanumeric, Extent::AtMost(17), 'N', Span(0, 0)),
-    ComponentLine(Class::Alphanumeric, Extent::AtMost(3), 'N', Span(0, 0)),
-    // C829
-    ComponentLine(Class::Alphanumeric, Extent::AtMost(3), 'R', Span(25, 1)),
-    ComponentLine(Class::Alphanumeric, Extent::AtMost(6), 'R', Span(0, 0)),
-    ComponentLine(Class::Numeric, Extent::AtMost(2), 'N', Span(0, 0)),
-    ComponentLine(Class::Alphanumeric, Extent::AtMost(3), 'N', Span(0, 0)),
-    // 20 PIA
-    ComponentLine(Class::Alphanumeric, Extent::AtMost(3), 'M', Span(26, 2)),
-    // C212
-    ComponentLine(Class::Alphanumeric, Extent::AtMost(35), 'R', Span(0, 0)),
-    ComponentLine(Class::Alphanumeric, Extent::AtMost(3), 'R', Span(0, 0)),
-    ComponentLine(Class::Alphanumeric, Extent::AtMost(17), 'O', Span(0, 0)),
-    ComponentLine(Class::Alphanumeric, Extent::AtMost(3), 'D', Span(0, 0)),
-    // C212
-    ComponentLine(Class::Alphanumeric, Extent::AtMost(35), 'R', Span(0, 0)),
-    ComponentLine(Class::Alphanumeric, Extent::AtMost(3), 'R', Span(0, 0)),
-    ComponentLine(Class::Alphanumeric, Extent::AtMost(17), 'O', Span(0, 0)),
-    ComponentLine(Class::Alphanumeric, Extent::AtMost(3), 'D', Span(0, 0)),
-    // C212
-    ComponentLine(Class::Alphanumeric, Extent::AtMost(35), 'R', Span(0, 0)),
-    ComponentLine(Class::Alphanumeric, Extent::AtMost(3), 'R', Span(0, 0)),
-    ComponentLine(Class::Alphanumeric, Extent::AtMost(17), 'O', Span(0, 0)),
-    ComponentLine(Class::Alphanumeric, Extent::AtMost(3), 'D', Span(0, 0)),
-    // C212
-    ComponentLine(Class::Alphanumeric, Extent::AtMost(35), 'R', Span(0, 0)),
-    ComponentLine(Class::Alphanumeric, Extent::AtMost(3), 'R', Span(0, 0)),
-    ComponentLine(Class::Alphanumeric, Extent::AtMost(17), 'O', Span(0, 0)),
-    ComponentLine(Class::Alphanumeric, Extent::AtMost(3), 'D', Span(0, 0)),
-    // C212
-    ComponentLine(Class::Alphanumeric, Extent::AtMost(35), 'R', Span(0, 0)),
-    ComponentLine(Class::Alphanumeric, Extent::AtMost(3), 'R', Span(0, 0)),
-    ComponentLine(Class::Alphanumeric, Extent::AtMost(17), 'O', Span(0, 0)),
-    ComponentLine(Class::Alphanumeric, Extent::AtMost(3), 'D', Span(0, 0)),
-    // 21 QTY
-    // C186
-    ComponentLine(Class::Alphanumeric, Extent::AtMost(3), 'M', Span(28, 8)),
-    ComponentLine(Class::Alphanumeric, Extent::AtMost(35), 'M', Span(0, 0)),
-    ComponentLine(Class::Alphanumeric, Extent::AtMost(3), 'D', Span(0, 0)),
-    // 22 QVR
-    // C279
-    ComponentLine(Class::Numeric, Extent::AtMost(15), 'M', Span(0, 0)),
-    ComponentLine(Class::Alphanumeric, Extent::AtMost(3), 'R', Span(0, 0)),
-    ComponentLine(Class::Alphanumeric, Extent::AtMost(3), 'O', Span(0, 0)),
-    // C960
-    ComponentLine(Class::Alphanumeric, Extent::AtMost(3), 'R', Span(0, 0)),
-    ComponentLine(Class::Alphanumeric, Extent::AtMost(17), 'O', Span(0, 0)),
-    ComponentLine(Class::Alphanumeric, Extent::AtMost(3), 'D', Span(0, 0)),
-    ComponentLine(Class::Alphanumeric, Extent::AtMost(35), 'O', Span(0, 0)),
-    // 23 DTM
-    // C507
-    ComponentLine(Class::Alphanumeric, Extent::AtMost(3), 'M', Span(0, 0)),
-    ComponentLine(Class::Alphanumeric, Extent::AtMost(35), 'R', Span(0, 0)),
-    ComponentLine(Class::Alphanumeric, Extent::AtMost(3), 'R', Span(0, 0)),
-    // 24 RFF
-    // C506
-    ComponentLine(Class::Alphanumeric, Extent::AtMost(3), 'M', Span(0, 0)),
-    ComponentLine(Class::Alphanumeric, Extent::AtMost(70), 'R', Span(0, 0)),
-    ComponentLine(Class::Alphanumeric, Extent::AtMost(6), 'O', Span(0, 0)),
-    ComponentLine(Class::Alphanumeric, Extent::AtMost(35), 'N', Span(0, 0)),
-    ComponentLine(Class::Alphanumeric, Extent::AtMost(6), 'N', Span(0, 0)),
-    // 25 DTM
-    // C507
-    ComponentLine(Class::Alphanumeric, Extent::AtMost(3), 'M', Span(36, 1)),
-    ComponentLine(Class::Alphanumeric, Extent::AtMost(35), 'R', Span(0, 0)),
-    ComponentLine(Class::Alphanumeric, Extent::AtMost(3), 'R', Span(0, 0)),
-    // 26 PCI
-    ComponentLine(Class::Alphanumeric, Extent::AtMost(3), 'O', Span(0, 0)),
-    // C210
-    ComponentLine(Class::Alphanumeric, Extent::AtMost(35), 'M', Span(0, 0)),
-    ComponentLine(Class::Alphanumeric, Extent::AtMost(35), 'O', Span(0, 0)),
-    ComponentLine(Class::Alphanumeric, Extent::AtMost(35), 'O', Span(0, 0)),
-    ComponentLine(Class::Alphanumeric, Extent::AtMost(35), 'O', Span(0, 0)),
-    ComponentLine(Class::Alphanumeric, Extent::AtMost(35), 'O', Span(0, 0)),
-    ComponentLine(Class::Alphanumeric, Extent::AtMost(35), 'O', Span(0, 0)),
-    ComponentLine(Class::Alphanumeric, Extent::AtMost(35), 'O', Span(0, 0)),
-    ComponentLine(Class::Alphanumeric, Extent::AtMost(35), 'O', Span(0, 0)),
-    ComponentLine(Class::Alphanumeric, Extent::AtMost(35), 'O', Span(0, 0)),
-    ComponentLine(Class::Alphanumeric, Extent::AtMost(3), 'N', Span(0, 0)),
-    // C827
-    ComponentLine(Class::Alphanumeric, Extent::AtMost(3), 'M', Span(0, 0)),
-    ComponentLine(Class::Alphanumeric, Extent::AtMost(17), 'C', Span(0, 0)),
-    ComponentLine(Class::Alphanumeric, Extent::AtMost(3), 'C', Span(0, 0)),
-    // 27 QTY
-    // C186
-    ComponentLine(Class::Alphanumeric, Extent::AtMost(3), 'M', Span(37, 1)),
-    ComponentLine(Class::Alphanumeric, Extent::AtMost(35), 'M', Span(0, 0)),
-    ComponentLine(Class::Alphanumeric, Extent::AtMost(3), 'D', Span(0, 0)),
-    // 28 QVR
-    // C279
-    ComponentLine(Class::Numeric, Extent::AtMost(15), 'M', Span(0, 0)),
-    ComponentLine(Class::Alphanumeric, Extent::AtMost(3), 'R', Span(0, 0)),
-    ComponentLine(Class::Alphanumeric, Extent::AtMost(3), 'O', Span(0, 0)),
-    // C960
-    ComponentLine(Class::Alphanumeric, Extent::AtMost(3), 'R', Span(0, 0)),
-    ComponentLine(Class::Alphanumeric, Extent::AtMost(17), 'O', Span(0, 0)),
-    ComponentLine(Class::Alphanumeric, Extent::AtMost(3), 'D', Span(0, 0)),
-    ComponentLine(Class::Alphanumeric, Extent::AtMost(35), 'O', Span(0, 0)),
-    // 29 GIN
-    ComponentLine(Class::Alphanumeric, Extent::AtMost(3), 'M', Span(0, 0)),
-    // C208
-    ComponentLine(Class::Alphanumeric, Extent::AtMost(35), 'M', Span(0, 0)),
-    ComponentLine(Class::Alphanumeric, Extent::AtMost(35), 'O', Span(0, 0)),
-    // C208
-    ComponentLine(Class::Alphanumeric, Extent::AtMost(35), 'M', Span(0, 0)),
-    ComponentLine(Class::Alphanumeric, Extent::AtMost(35), 'O', Span(0, 0)),
-    // C208
-    ComponentLine(Class::Alphanumeric, Extent::AtMost(35), 'M', Span(0, 0)),
-    ComponentLine(Class::Alphanumeric, Extent::AtMost(35), 'O', Span(0, 0)),
-    // C208
-    ComponentLine(Class::Alphanumeric, Extent::AtMost(35), 'M', Span(0, 0)),
-    ComponentLine(Class::Alphanumeric, Extent::AtMost(35), 'O', Span(0, 0)),
-    // C208
-    ComponentLine(Class::Alphanumeric, Extent::AtMost(35), 'M', Span(0, 0)),
-    ComponentLine(Class::Alphanumeric, Extent::AtMost(35), 'O', Span(0, 0)),
-    // 30 CNT
-    // C270
-    ComponentLine(Class::Alphanumeric, Extent::AtMost(3), 'M', Span(38, 1)),
-    ComponentLine(Class::Numeric, Extent::AtMost(18), 'M', Span(0, 0)),
-    ComponentLine(Class::Alphanumeric, Extent::AtMost(3), 'O', Span(0, 0)),
-];
-
-static CODES: [Span; 39] = [
-    Span(17, 3),
-    Span(16, 1),
-    Span(20, 1),
-    Span(21, 2),
-    Span(23, 2),
-    Span(19, 2),
-    Span(25, 2),
-    Span(27, 2),
-    Span(29, 3),
-    Span(32, 3),
-    Span(35, 3),
-    Span(38, 3),
-    Span(41, 3),
-    Span(44, 3),
-    Span(47, 3),
-    Span(7, 1),
-    Span(18, 1),
-    Span(50, 3),
-    Span(20, 1),
-    Span(53, 3),
-    Span(56, 2),
-    Span(58, 2),
-    Span(60, 2),
-    Span(7, 1),
-    Span(62, 3),
-    Span(7, 1),
-    Span(7, 1),
-    Span(16, 1),
-    Span(22, 2),
-    Span(65, 2),
-    Span(67, 2),
-    Span(69, 2),
-    Span(71, 2),
-    Span(73, 2),
-    Span(75, 3),
-    Span(78, 3),
-    Span(50, 3),
-    Span(78, 3),
-    Span(19, 1),
-];
-
-static LETTERS: [u8; 81] =
-    *b"RECADV01BUNEAN00563293127355013720036977277377498E171YC1FCGNVASRV2146485966192194";
-
-static IDENTIFIER: [Span; 5] = [Span(0, 6), Span(4, 1), Span(6, 3), Span(9, 2), Span(11, 6)];
-
-// The tables, which mean the rows, layouts and identifier of the definition.
-fn tables() -> Tables<'static>
-    ensures rows { rows_of result ≡ recadv_rows }
-    ensures layouts { layouts_of result ≡ recadv_layouts }
-    ensures identifier { identifier_of result ≡ recadv_identifier }
-{
-    Tables {
-        rows: &ROWS,
-        layouts: &LAYOUTS,
-        elements: &ELEMENTS,
-        components: &COMPONENTS,
-        codes: &CODES,
-        letters: &LETTERS,
-        identifier: &IDENTIFIER,
-    }
-}
 
 // The receiving advice RECADV, EANCOM 2002, version 005, directory D.01B.
-#[derive(Clone, Copy, Drop)]
-pub struct Recadv;
-
-impl Recadv {
-    // The book. Of all rows that may come directly after one row, no two different ones have the same tag.
-    // It is clear: no two different rows of one tag can follow the same row, in messages of rows and so in messages.
-    // The guideline's example of each row fits that row.
-    pub fn new() -> Recadv
-        ensures followers { followers_differ recadv_rows ≡ true }
-        ensures diagram { ClearRows recadv_rows }
-        ensures clear { Clear recadv }
-        ensures examples { examples_fit ≡ true }
-    {
-        Recadv
-    }
-}
-
-impl Diagram for Recadv {
-    ghost rows = { λ _. recadv_rows };
-
-    // one test, computed over all rows
-    ghost lawful = { λ s. rows_keep_rules recadv_rows refl };
-
-    fn row_count(&self) -> usize {
-        tables().row_count()
-    }
-
-    fn row(&self, number: usize) -> Option<Row> {
-        tables().row(number)
-    }
-}
-
-impl Book for Recadv {
-    ghost layouts = { λ _. recadv_layouts };
-
-    ghost identifier = { λ _. recadv_identifier };
-
-    ghost regular = { λ _. refl };
-
-    ghost paired = { λ _. refl };
-
-    ghost bare = { λ _. (refl, refl) };
-
-    ghost identified = { λ _. refl };
-
-    fn element(&self, row: usize, element: usize) -> Option<ElementRule> {
-        tables().element(row, element)
-    }
-
-    fn component(&self, row: usize, element: usize, component: usize) -> Option<ComponentRule> {
-        tables().component(row, element, component)
-    }
-
-    fn code(&self, row: usize, element: usize, component: usize, code: usize) -> Option<&[u8]> {
-        tables().code(row, element, component, code)
-    }
-
-    fn identifier_part(&self, number: usize) -> Option<&[u8]> {
-        tables().identifier_part(number)
+// Of all rows that may come directly after one row, no two different ones have the same tag.
+// It is clear: no two different rows of one tag can follow the same row, in messages of rows and so in messages.
+// The guideline's example of each row fits that row.
+pub fn book() -> TableBook
+    ensures rows { ⟦<TableBook as Diagram>⟧.rows result ≡ recadv_rows }
+    ensures layouts { ⟦<TableBook as Book>⟧.layouts result ≡ recadv_layouts }
+    ensures identifier { ⟦<TableBook as Book>⟧.identifier result ≡ recadv_identifier }
+    ensures followers { followers_differ recadv_rows ≡ true }
+    ensures diagram { ClearRows recadv_rows }
+    ensures clear { Clear recadv }
+    ensures examples { examples_fit ≡ true }
+{
+    TableBook {
+        table: Table {
+            header: &HEADER,
+            detail: &DETAIL,
+            identifier: &["RECADV", "D", "01B", "UN", "EAN005"],
+        },
     }
 }

@@ -1,157 +1,197 @@
-// A book as flat tables of lines, each line with a span of lines of the next table.
-ghost use Rattle.std.specs.Prelude.{◌≡◌, length};
+// A book as a table of its rows and layouts.
+ghost use Rattle.std.specs.Prelude.{◌≡◌, true, [], length, Some, ◌-◌};
 ghost use Rattle.std.specs.List.{slice_get};
-ghost use Rattle.std.specs.Option.{option_map};
-ghost use Rattle.message.specs.Layouts.{element_head, component_head, element_at, component_at, code_at};
-ghost use Rattle.books.specs.Tables.{part, rows_of, element_of, component_of, layouts_of, identifier_of};
+ghost use Rattle.std.specs.Option.{option_map, option_copied};
+ghost use Rattle.std.proofs.Common.{sym, ◌∙◌};
+ghost use Rattle.std.proofs.lemmas.List.{length-map};
+ghost use Rattle.message.specs.Layouts.{all, layout_rule, identifier_rule, element_at, component_at};
+ghost use Rattle.message.specs.RowTests.{rows_test};
+ghost use Rattle.message.proofs.RowTests.{rows_keep_rules};
+ghost use Rattle.books.specs.Tables.{lines_of, rows_of, element_of, component_of, layout_of, layouts_of, identifier_of};
 
+use message::book::{Book, Diagram};
 use message::layout::{Class, ComponentRule, ElementRule, Extent};
-use message::row::{Kind, Need, Row};
+use message::row::Row;
 
-// Where lines begin in a table, and how many they are.
+// A row with its layout.
 #[derive(Clone, Copy, Drop)]
-pub struct Span(pub usize, pub usize);
-
-// A row: tag, level, kind, need, limit.
-#[derive(Clone, Copy, Drop)]
-pub struct RowLine(pub [u8; 3], pub u8, pub Kind, pub Need, pub u32);
-
-// An element: status letter and components.
-#[derive(Clone, Copy, Drop)]
-pub struct ElementLine(pub char, pub Span);
-
-// A component: class, extent, status letter and codes.
-#[derive(Clone, Copy, Drop)]
-pub struct ComponentLine(pub Class, pub Extent, pub char, pub Span);
-
-#[derive(Clone, Copy, Drop)]
-pub struct Tables<'a> {
-    pub rows: &'a [RowLine],
-    // for each row its elements, for each element its components, for each component its codes, for each code its letters
-    pub layouts: &'a [Span],
-    pub elements: &'a [ElementLine],
-    pub components: &'a [ComponentLine],
-    pub codes: &'a [Span],
-    pub letters: &'a [u8],
-    // the parts of the identifier, by their letters
-    pub identifier: &'a [Span],
+pub struct RowLine {
+    pub row: Row,
+    pub layout: &'static [ElementLine],
 }
 
-// The line of that number.
-fn line<X: Copy>(lines: &[X], number: usize) -> Option<X>
-    ensures { result ≡ slice_get lines.now number }
-{
-    if number < lines.len() {
-        Some(lines[number])
-    } else {
-        None
-    }
+#[derive(Clone, Copy, Drop)]
+pub struct ElementLine {
+    pub status: char,
+    pub components: &'static [ComponentLine],
 }
 
-// The lines of a span, as many as there are.
-fn lines_in<'a, X>(lines: &'a [X], span: Span) -> &'a [X]
-    ensures { result.now ≡ part lines.now span }
-{
-    let (_, behind) = lines.split_at(span.0.min(lines.len()));
-    let (front, _) = behind.split_at(span.1.min(behind.len()));
-    front
+#[derive(Clone, Copy, Drop)]
+pub struct ComponentLine {
+    pub class: Class,
+    pub extent: Extent,
+    pub status: char,
+    pub codes: &'static [&'static str],
 }
 
-impl<'a> Tables<'a> {
-    pub fn row(&self, number: usize) -> Option<Row>
-        ensures { result ≡ slice_get (rows_of self.now) number }
+// The lines of a message's rows, and the parts of its identifier.
+#[derive(Clone, Copy, Drop)]
+pub struct Table {
+    // the header section, then the detail and the summary section: one static of all rows of RECADV is more than the check takes
+    pub header: &'static [RowLine],
+    pub detail: &'static [RowLine],
+    pub identifier: &'static [&'static str],
+}
+
+impl Table {
+    // The line of a row.
+    fn row(&self, row: usize) -> Option<&'static RowLine>
+        ensures { option_copied result ≡ slice_get (lines_of self.now) row }
     {
-        match line(self.rows, number) {
-            Some(found) => {
-                let tag = found.0;
-                Some(Row {
-                    tag,
-                    level: found.1,
-                    kind: found.2,
-                    need: found.3,
-                    limit: found.4,
-                })
-            }
-            None => None,
+        match row.checked_sub(self.header.len()) {
+            Some(behind) => self.detail.get(behind),
+            None => self.header.get(row),
         }
-    }
-
-    pub fn row_count(&self) -> usize
-        ensures { result ≡ length (rows_of self.now) }
-    {
-        self.rows.len()
     }
 
     // The line of an element.
-    fn element_line(&self, row: usize, element: usize) -> Option<ElementLine>
-        ensures { option_map (element_of self.now) result ≡ element_at (layouts_of self.now) row element }
+    fn element(&self, row: usize, element: usize) -> Option<&'static ElementLine>
+        ensures { option_map (λ x. element_of x.now) result ≡ element_at (layouts_of self.now) row element }
     {
-        match line(self.layouts, row) {
-            Some(layout) => line(lines_in(self.elements, layout), element),
-            None => None,
-        }
+        self.row(row)?.layout.get(element)
     }
 
     // The line of a component.
-    fn component_line(&self, row: usize, element: usize, component: usize) -> Option<ComponentLine>
-        ensures { option_map (component_of self.now) result ≡ component_at (layouts_of self.now) row element component }
-    {
-        match self.element_line(row, element) {
-            Some(found) => line(lines_in(self.components, found.1), component),
-            None => None,
-        }
-    }
-
-    pub fn element(&self, row: usize, element: usize) -> Option<ElementRule>
-        ensures { result ≡ option_map element_head (element_at (layouts_of self.now) row element) }
-    {
-        match self.element_line(row, element) {
-            Some(found) => Some(ElementRule {
-                status: found.0,
-                components: lines_in(self.components, found.1).len(),
-            }),
-            None => None,
-        }
-    }
-
-    pub fn component(&self, row: usize, element: usize, component: usize) -> Option<ComponentRule>
-        ensures { result ≡ option_map component_head (component_at (layouts_of self.now) row element component) }
-    {
-        match self.component_line(row, element, component) {
-            Some(found) => Some(ComponentRule {
-                class: found.0,
-                extent: found.1,
-                status: found.2,
-                codes: lines_in(self.codes, found.3).len(),
-            }),
-            None => None,
-        }
-    }
-
-    pub fn code(
+    fn component(
         &self,
         row: usize,
         element: usize,
         component: usize,
-        code: usize,
-    ) -> Option<&'a [u8]>
-        ensures { option_map (λ x. x.now) result ≡ code_at (layouts_of self.now) row element component code }
+    ) -> Option<&'static ComponentLine>
+        ensures { option_map (λ x. component_of x.now) result ≡ component_at (layouts_of self.now) row element component }
     {
-        match self.component_line(row, element, component) {
-            Some(found) => match line(lines_in(self.codes, found.3), code) {
-                Some(span) => Some(lines_in(self.letters, span)),
-                None => None,
-            },
-            None => None,
-        }
-    }
-
-    pub fn identifier_part(&self, number: usize) -> Option<&'a [u8]>
-        ensures { option_map (λ x. x.now) result ≡ slice_get (identifier_of self.now) number }
-    {
-        match line(self.identifier, number) {
-            Some(span) => Some(lines_in(self.letters, span)),
-            None => None,
-        }
+        self.element(row, element)?.components.get(component)
     }
 }
+
+// A book that a table tells.
+#[derive(Clone, Copy, Drop)]
+pub struct TableBook {
+    pub(crate) table: Table,
+    ghost lawful: { rows_test (rows_of table) ≡ true },
+    ghost regular: { all layout_rule (layouts_of table) ≡ true },
+    ghost bare: { (slice_get (layouts_of table) 0 ≡ Some []) × (slice_get (layouts_of table) (length (layouts_of table) - 1) ≡ Some []) },
+    ghost identified: { identifier_rule (identifier_of table) ≡ true },
+}
+
+impl Diagram for TableBook {
+    ghost rows = { λ s. rows_of s.table };
+
+    ghost lawful = { λ s. rows_keep_rules (rows_of s.table) s.lawful };
+
+    fn row_count(&self) -> usize {
+        self.table.header.len() + self.table.detail.len()
+    }
+
+    fn row(&self, number: usize) -> Option<Row> {
+        Some(self.table.row(number)?.row)
+    }
+}
+
+impl Book for TableBook {
+    ghost layouts = { λ s. layouts_of s.table };
+
+    ghost identifier = { λ s. identifier_of s.table };
+
+    ghost regular = { λ s. s.regular };
+
+    ghost paired = { λ s. length-map (lines_of s.table) layout_of ∙ sym (length-map (lines_of s.table) (λ r. r.row)) };
+
+    ghost bare = { λ s. s.bare };
+
+    ghost identified = { λ s. s.identified };
+
+    fn element(&self, row: usize, element: usize) -> Option<ElementRule> {
+        let found = self.table.element(row, element)?;
+        Some(ElementRule {
+            status: found.status,
+            components: found.components.len(),
+        })
+    }
+
+    fn component(&self, row: usize, element: usize, component: usize) -> Option<ComponentRule> {
+        let found = self.table.component(row, element, component)?;
+        Some(ComponentRule {
+            class: found.class,
+            extent: found.extent,
+            status: found.status,
+            codes: found.codes.len(),
+        })
+    }
+
+    fn code(&self, row: usize, element: usize, component: usize, code: usize) -> Option<&[u8]> {
+        let codes = self.table.component(row, element, component)?.codes;
+        Some(codes.get(code)?.as_bytes())
+    }
+
+    fn identifier_part(&self, number: usize) -> Option<&[u8]> {
+        Some(self.table.identifier.get(number)?.as_bytes())
+    }
+}
+
+// The macros write a table's lines as a guideline prints them.
+
+// A row by its tag, level, kind, need and limit.
+macro_rules! row {
+    ($tag:literal, $level:literal, $kind:ident, $need:ident, $limit:literal) => {
+        message::row::Row {
+            tag: *$tag,
+            level: $level,
+            kind: message::row::Kind::$kind,
+            need: message::row::Need::$need,
+            limit: $limit,
+        }
+    };
+}
+
+// An element by its status letter and its components.
+macro_rules! element {
+    ($status:literal: $($component:expr),*) => {
+        $crate::tables::ElementLine {
+            status: $status,
+            components: &[$($component),*],
+        }
+    };
+}
+
+// A component an..length by its status letter, with its codes where a list binds.
+macro_rules! an {
+    ($length:literal, $status:literal) => {
+        $crate::tables::an!($length, $status, [])
+    };
+    ($length:literal, $status:literal, [$($code:literal),*]) => {
+        $crate::tables::ComponentLine {
+            class: message::layout::Class::Alphanumeric,
+            extent: message::layout::Extent::AtMost($length),
+            status: $status,
+            codes: &[$($code),*],
+        }
+    };
+}
+
+// A component n..length by its status letter.
+macro_rules! num {
+    ($length:literal, $status:literal) => {
+        $crate::tables::ComponentLine {
+            class: message::layout::Class::Numeric,
+            extent: message::layout::Extent::AtMost($length),
+            status: $status,
+            codes: &[],
+        }
+    };
+}
+
+pub(crate) use an;
+pub(crate) use element;
+pub(crate) use num;
+pub(crate) use row;

@@ -2,6 +2,7 @@
 use Rattle.std.proofs.Common.{◌≡◌, ℕ, suc, ◌≤◌, Bool, true, false, cond, List, [], ◌∷◌, ◌++◌, length, take, drop, sym, refl, ap, ◌∙◌, subst, arith}
 use Rattle.std.proofs.lemmas.Bool.{and_parts, and_from, cond_both, cond-true, cond-false}
 use Rattle.std.proofs.lemmas.Bool.Decides.{nat_tests}
+use Rattle.std.specs.List.{prefix_len}
 use Rattle.syntax.specs.Bytes.{line_break, break_run}
 use Rattle.syntax.specs.Split.{releases, divides, onto, split}
 use Rattle.edifact.specs.Segments.{first_of, others_of}
@@ -99,3 +100,8 @@ break_run-allowed b bs h = cond-false (line_break b) (suc (break_run bs)) 0 (no_
   where
     no_break : (b : ℕ) → 32 ≤ b → line_break b ≡ false
     no_break b h = grind (arith, nat_tests)
+
+-- as std counts them
+pub break_run_prefix : (bs : List ℕ) → prefix_len line_break bs ≡ break_run bs
+break_run_prefix [] = refl
+break_run_prefix (b ∷ bs) = ap (λ n. cond (line_break b) n 0) (omega (arith, break_run_prefix bs))

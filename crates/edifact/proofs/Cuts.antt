@@ -1,6 +1,6 @@
 -- One step of the cutter over the text.
-use Rattle.std.proofs.Common.{◌≡◌, ℕ, ◌+◌, ◌-◌, ◌<◌, ◌≤◌, Bool, true, false, cond, ltb, List, [], ◌∷◌, length, take, drop, Some, None, Ok, Err, Option, Result, sym, refl, ap, ◌∙◌, subst, ⊎_elim, arith}
-use Rattle.std.proofs.lemmas.List.{length-take-le, take_all, take_rest, drop-drop}
+use Rattle.std.proofs.Common.{◌≡◌, ℕ, ◌+◌, ◌-◌, ◌<◌, ◌≤◌, Bool, true, false, cond, ltb, List, [], ◌∷◌, length, take, drop, Ok, Err, Result, sym, refl, ap, ◌∙◌, subst, ⊎_elim, arith}
+use Rattle.std.proofs.lemmas.List.{length-take-le, take_all, take_rest}
 use Rattle.std.proofs.lemmas.Bool.{ne_eqb, lt-ltb, le-ltb, cases_lt}
 use Rattle.syntax.specs.declared.fault.CutFault.{CutFault}
 use Rattle.syntax.specs.declared.marks.Marks.{Marks}
@@ -11,7 +11,7 @@ use Rattle.syntax.specs.Split.{split, reach}
 use Rattle.edifact.specs.Segments.{first_of, others_of, judged}
 use Rattle.edifact.specs.Scanning.{with_length, segment_in}
 use Rattle.edifact.specs.Cutting.{Cut, Cutting, ended, stopped, push, pushed, cut_pieces, cut_from}
-use Rattle.edifact.specs.Cursors.{unless_stopped}
+use Rattle.edifact.specs.Cursors.{Part, part}
 use Rattle.edifact.specs.Laws.{IsCut}
 use Rattle.edifact.proofs.Breaks.{break_run-first, split_skipped}
 use Rattle.syntax.proofs.Lawfulness.{lawful_distinct}
@@ -19,16 +19,12 @@ use Rattle.edifact.proofs.PartsWhole.{parts_join, part-whole}
 use Rattle.edifact.proofs.Wholes.{EndedClosed, closed, no_mark, split-ended-closed}
 use Rattle.syntax.proofs.Splits.{split-some, split-next, split-last}
 
-pub cut-none : (m : Marks) (k at : ℕ) (bs : List ℕ) → length bs ≡ 0 → cut_from m k at bs ≡ ended
-cut-none m k at [] h = refl
-cut-none m k at (b ∷ bs) h = absurd (omega arith)
-
 found-parts : (n : ℕ) (v : Result (List ℕ) CutFault) (x : Found) → with_length n v ≡ Ok x → (v ≡ Ok x.tag) × (x.length ≡ n)
 found-parts n (Ok t) x e = (cc, cc)
-found-parts n (Err f) x e = let z : ◌≡◌ {A = ℕ} 0 1 = cc in absurd (omega arith)
+found-parts n (Err f) x e = grind arith
 
 found-fault : (n : ℕ) (v : Result (List ℕ) CutFault) (f : CutFault) → with_length n v ≡ Err f → v ≡ Err f
-found-fault n (Ok t) f e = let z : ◌≡◌ {A = ℕ} 0 1 = cc in absurd (omega arith)
+found-fault n (Ok t) f e = grind arith
 found-fault n (Err g) f e = cc
 
 pieces_more : (m : Marks) (k at : ℕ) (p : List ℕ) (ps : List (List ℕ)) → 0 < length ps →
@@ -60,7 +56,7 @@ cut_open m k at n bs e h some =
     ∙ ap (λ t. pushed m k at bs (judged m k t bs) ended) (sym (le-ltb n (length bs) h))
     ∙ ap (λ x. pushed m k at bs (judged m k (ltb n (length bs)) x) ended) (sym (take_all n bs h))
 
-pub cut_err : (m : Marks) (k at : ℕ) (bs : List ℕ) (f : CutFault) → 0 < length bs → segment_in m k bs ≡ Err f → cut_from m k at bs ≡ stopped f
+cut_err : (m : Marks) (k at : ℕ) (bs : List ℕ) (f : CutFault) → 0 < length bs → segment_in m k bs ≡ Err f → cut_from m k at bs ≡ stopped f
 cut_err m k at bs f some e =
     let n : ℕ = reach m.release m.terminator false bs in
     let v = found-fault n (judged m k (ltb n (length bs)) (take n bs)) f e in
@@ -68,7 +64,7 @@ cut_err m k at bs f some e =
     (λ h. cut-ended m k at n bs refl h ∙ ap (λ x. pushed m k at (take n bs) x (behind m k at (take n bs) (pieces_behind m n bs))) v)
     (λ h. cut_open m k at n bs refl h some ∙ ap (λ x. pushed m k at bs x ended) v) (cases_lt n (length bs))
 
-pub cut_ok : (m : Marks) (k at : ℕ) (bs : List ℕ) (x : Found) → lawful m ≡ true → segment_in m k bs ≡ Ok x → x.length < length bs →
+cut_ok : (m : Marks) (k at : ℕ) (bs : List ℕ) (x : Found) → lawful m ≡ true → segment_in m k bs ≡ Ok x → x.length < length bs →
     cut_from m k at bs ≡ push (record { marks = m; number = k; first = at; bytes = take x.length bs; tag = x.tag })
     (cut_from m (k + 1) (at + (x.length + 1 + break_run (drop (x.length + 1) bs))) (drop (break_run (drop (x.length + 1) bs)) (drop (x.length + 1) bs)))
 cut_ok m k at bs x law e h =
@@ -87,28 +83,6 @@ cut_ok m k at bs x law e h =
     ∙ ap (λ y. cut_pieces m (k + 1) (at + (n + 1 + y)) (drop y (first_of ps)) (others_of ps)) (break_run-first m.release m.terminator d.release.low d.terminator.low rest)
     ∙ ap (λ qs. cut_pieces m (k + 1) (at + (n + 1 + break_run rest)) (first_of qs) (others_of qs)) (sym (split_skipped m.release m.terminator d.release.low d.terminator.low rest)))
 
--- The shapes that the code has: bs is the body s from `at` on, cut at the segment's end into p and q; j breaks are skipped; o bytes stand before the body, and n segments were told.
-pub next_ok : (m : Marks) (n k o f at j to : ℕ) (s bs p q : List ℕ) (x : Found) → lawful m ≡ true → k ≡ n + 1 → f ≡ o + at →
-    bs ≡ drop at s → Ok x ≡ segment_in m k bs → x.length < length bs → p ≡ take x.length bs → q ≡ drop x.length bs → j ≡ break_run (take (length q - 1) (drop 1 q)) → to ≡ at + (x.length + 1 + j) →
-    cut_from m (n + 1) (o + at) (drop at s) ≡ push (record { marks = m; number = k; first = f; bytes = p; tag = x.tag }) (cut_from m (k + 1) (o + to) (drop to s))
-next_ok m n k o f at j to s bs p q x law ek ef eb e h ep eq ej et =
-    let l : ℕ = x.length in
-    let back : take (length q - 1) (drop 1 q) ≡ drop (l + 1) bs = take_rest q 1 ∙ ap (drop 1) eq ∙ drop-drop 1 l bs in
-    let count : j ≡ break_run (drop (l + 1) bs) = ej ∙ ap break_run back in
-    let there : drop j (drop (l + 1) bs) ≡ drop (at + (l + 1 + j)) s = ap (λ y. drop j (drop (l + 1) y)) eb ∙ ap (drop j) (drop-drop (l + 1) at s) ∙ drop-drop j (at + (l + 1)) s ∙ ap (λ y. drop y s) (omega arith) in
-    let sum : f + (l + 1 + j) ≡ o + (at + (l + 1 + j)) = omega arith in
-    let this : List ℕ → Cut = λ y. record { marks = m; number = k; first = f; bytes = y; tag = x.tag } in
-    ap (λ y. cut_from m y (o + at) (drop at s)) (sym ek) ∙ ap (λ y. cut_from m k y (drop at s)) (sym ef)
-    ∙ ap (cut_from m k f) (sym eb) ∙ cut_ok m k f bs x law (sym e) h
-    ∙ ap (λ y. push (this y) (cut_from m (k + 1) (f + (l + 1 + break_run (drop (l + 1) bs))) (drop (break_run (drop (l + 1) bs)) (drop (l + 1) bs)))) (sym ep)
-    ∙ ap (λ y. push (this p) (cut_from m (k + 1) (f + (l + 1 + y)) (drop y (drop (l + 1) bs)))) (sym count)
-    ∙ ap (λ y. push (this p) (cut_from m (k + 1) (f + (l + 1 + j)) y)) there
-    ∙ ap (λ y. push (this p) (cut_from m (k + 1) y (drop (at + (l + 1 + j)) s))) sum
-    ∙ ap (λ y. push (this p) (cut_from m (k + 1) (o + y) (drop y s))) (sym et)
-
-pub next_err : (m : Marks) (n k f at : ℕ) (s bs : List ℕ) (g : CutFault) → k ≡ n + 1 → bs ≡ drop at s → 0 < length bs → Err g ≡ segment_in m k bs → cut_from m (n + 1) f (drop at s) ≡ stopped g
-next_err m n k f at s bs g ek eb some e = ap (λ y. cut_from m y f (drop at s)) (sym ek) ∙ ap (cut_from m k f) (sym eb) ∙ cut_err m k f bs g some (sym e)
-
 -- the first piece is closed, if a terminator ends it
 first-closed : (m : Marks) (n : ℕ) (bs : List ℕ) → n ≡ reach m.release m.terminator false bs → n < length bs →
     closed (no_mark m.release m.terminator) m.release false (take n bs) ≡ true
@@ -124,7 +98,7 @@ first-closed m n bs e h =
     of_two (q ∷ qs) some h = h.0
 
 -- the segment that is found is cut
-pub next-cut : (m : Marks) (k at : ℕ) (bs p : List ℕ) (x : Found) → lawful m ≡ true → Ok x ≡ segment_in m k bs → x.length < length bs → p ≡ take x.length bs →
+next-cut : (m : Marks) (k at : ℕ) (bs p : List ℕ) (x : Found) → lawful m ≡ true → Ok x ≡ segment_in m k bs → x.length < length bs → p ≡ take x.length bs →
     IsCut (record { marks = m; number = k; first = at; bytes = p; tag = x.tag })
 next-cut m k at bs p x law e h ep =
     let n : ℕ = x.length in
@@ -136,11 +110,28 @@ next-cut m k at bs p x law e h ep =
     (ap (judged m k true) ep ∙ sym (ap (λ t. judged m k t (take n bs)) (lt-ltb n (length bs) h)) ∙ told) in
     record { marked = law; joins = parts_join m p; whole = good.0; tagged = good.1 }
 
--- a cutter that isn't stopped tells what is left
-pub unstopped : (f : Option CutFault) (a b : Cutting) → f ≡ None → a ≡ b → unless_stopped f a ≡ b
-unstopped None a b n e = e
-unstopped (Some f) a b n e = let z : ◌≡◌ {A = ℕ} 0 1 = cc in absurd (omega arith)
+-- the piece is cut as the first segment, and `left` behind it
+abbrev pub Next : Marks → (k at : ℕ) → (bs : List ℕ) → (piece : Part) → Found → (left : Cutting) → Type 0
+Next m k at bs piece x left =
+    let this : Cut = record { marks = piece.marks; number = k; first = at; bytes = piece.bytes; tag = x.tag } in
+    (cut_from m k at bs ≡ push this left) × IsCut this
 
-pub unstopped-push : (f : Option CutFault) (a b : Cutting) (s : Cut) → f ≡ None → a ≡ push s b → unless_stopped f a ≡ push s (unless_stopped f b)
-unstopped-push None a b s n e = e
-unstopped-push (Some f) a b s n e = let z : ◌≡◌ {A = ℕ} 0 1 = cc in absurd (omega arith)
+-- A step of the cutter: `text` is what is left, bs, `piece` its first segment, and b, o and n are what is left behind it, where that begins and its number.
+pub next_ok : (m : Marks) (k at : ℕ) (bs p b : List ℕ) (o n : ℕ) (text piece : Part) (x : Found) → lawful m ≡ true → text ≡ part m bs →
+    Ok x ≡ segment_in text.marks k text.bytes → x.length < length text.bytes → p ≡ take x.length bs → piece ≡ part m p →
+    b ≡ drop (break_run (drop (x.length + 1) bs)) (drop (x.length + 1) bs) → o ≡ at + (x.length + 1 + break_run (drop (x.length + 1) bs)) → n ≡ k + 1 →
+    Next m k at bs piece x (cut_from m n o b)
+next_ok m k at bs p b o n text piece x law et e h ep ei eb eo en =
+    let found : Ok x ≡ segment_in m k bs = e ∙ ap (λ t. segment_in t.marks k t.bytes) et in
+    let short : x.length < length bs = subst (λ t. x.length < length t.bytes) et h in
+    let left : List ℕ = drop (x.length + 1) bs in
+    let to : ℕ = at + (x.length + 1 + break_run left) in
+    let same : cut_from m n o b ≡ cut_from m (k + 1) to (drop (break_run left) left)
+    = ap (λ y. cut_from m y o b) en ∙ ap (λ y. cut_from m (k + 1) y b) eo ∙ ap (cut_from m (k + 1) to) eb in
+    subst (λ y. Next m k at bs y x (cut_from m n o b)) (sym ei)
+    (subst (λ y. Next m k at bs (part m p) x y) (sym same)
+    (subst (λ y. Next m k at bs (part m y) x (cut_from m (k + 1) to (drop (break_run left) left))) (sym ep)
+    (cut_ok m k at bs x law (sym found) short, next-cut m k at bs (take x.length bs) x law found short refl)))
+
+pub next_err : (m : Marks) (k at : ℕ) (bs : List ℕ) (text : Part) (f : CutFault) → text ≡ part m bs → 0 < length bs → Err f ≡ segment_in text.marks k text.bytes → cut_from m k at bs ≡ stopped f
+next_err m k at bs text f et some e = cut_err m k at bs f some (ap (λ t. segment_in t.marks k t.bytes) (sym et) ∙ sym e)

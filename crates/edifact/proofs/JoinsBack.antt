@@ -18,7 +18,7 @@ use Rattle.edifact.proofs.Breaks.{skipped_breaks, break_run-within, ended_closed
 use Rattle.edifact.proofs.PartsWhole.{parts_join, part-whole}
 
 stopped-fault : (f : CutFault) → (stopped f).fault ≡ None → ⊥
-stopped-fault f e = let z : ◌≡◌ {A = ℕ} 0 1 = cc in omega arith
+stopped-fault f e = grind arith
 
 -- the last piece is empty
 unended_faulty : (m : Marks) (k at : ℕ) (p : List ℕ) → (pushed m k at p (judged m k false p) ended).fault ≡ None → ⊥

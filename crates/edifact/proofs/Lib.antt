@@ -1,6 +1,4 @@
-pub mod Tags
 pub mod Scans
-pub mod Beginnings
 pub mod Wholes
 pub mod Breaks
 pub mod PartsWhole

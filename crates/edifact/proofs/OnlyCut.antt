@@ -17,7 +17,7 @@ use Rattle.edifact.proofs.PartsWhole.{segment_fits, segment_excludes, segment_cl
 
 -- parts with a tag have an element
 tagged-some : (m : Marks) (es : List (List (List ℕ))) (t : List ℕ) → tag_among m es ≡ Some t → 0 < length es
-tagged-some m [] t e = let z : ◌≡◌ {A = ℕ} 0 1 = cc in absurd (omega arith)
+tagged-some m [] t e = grind arith
 tagged-some m (x ∷ es) t e = omega arith
 
 pub written-parts : (m : Marks) → Distinct m → (w : Written) → IsWritten m w →

@@ -227,7 +227,7 @@ judged_ok m k p t =
     let fault : CutFault = ForbiddenByte (place_behind m k (take (allowed_run p) p)) in
     cond_both (holds_forbidden p) (Err fault) (tagged k (tag_of m p))
     (λ v. v ≡ Ok t → (length p ≤ allowed_run p) × (tag_of m p ≡ Some t))
-    (λ f e. let z : ◌≡◌ {A = ℕ} 0 1 = cc in absurd (omega arith))
+    (λ f e. grind arith)
     (λ f e. (ltb-false (allowed_run p) (length p) f, tagged_ok k (tag_of m p) t e))
 
 -- the elements of closed bytes have whole components

@@ -31,7 +31,7 @@ spells_characters m [] h = Spells.none
 spells_characters m (b ∷ []) h =
     let rl : ℕ = m.release in
     (elim (eqb b rl) as (λ t. eqb b rl ≡ t → is_whole m t [] ≡ true → Spells rl (b ∷ []) (cond t [] (b ∷ []))) [
-      | true ↦ λ e w. let z : ◌≡◌ {A = ℕ} 0 1 = cc in absurd (omega arith)
+      | true ↦ λ e w. grind arith
       | false ↦ λ e w. Spells.plain b [] [] (eqb-false b rl e) Spells.none
     ]) refl (whole-rest m false b [] h)
 spells_characters m (b ∷ x ∷ bs) h =

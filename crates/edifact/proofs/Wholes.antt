@@ -82,7 +82,7 @@ module _ (fits : Bool → ℕ → Bool) (rl k : ℕ) (excludes : Excludes fits r
 module _ (fits : Bool → ℕ → Bool) (rl c : ℕ) (ne : c ≡ rl → ⊥) (fit : fits false c ≡ true) where
   closed-before : (r : Bool) (p rest : List ℕ) → closed fits rl r p ≡ true → closed fits rl false rest ≡ true →
       closed fits rl r (p ++ c ∷ rest) ≡ true
-  closed-before true [] rest h w = let z : ◌≡◌ {A = ℕ} 0 1 = cc in absurd (omega arith)
+  closed-before true [] rest h w = grind arith
   closed-before false [] rest h w =
       let a = mark_divides rl c false ne refl in
       and_from (fits false c) (closed fits rl (releases rl false c) rest) fit (rw a.1 w)

@@ -7,19 +7,20 @@ use syntax::marks::Marks;
 
 pub mod methods;
 
+// What is left of a text to cut: where it begins in the text, and the number of its first segment.
+#[derive(Clone, Copy, Drop)]
+struct Rest<'t> {
+    bytes: &'t [u8],
+    position: usize,
+    number: usize,
+    ghost counted: { number ≤ position + 1 },
+    ghost counting: { position + length bytes.now < 2 ^ 63 },
+}
+
 // A text that is cut segment by segment. It stays at its end or at its first fault.
 #[derive(Clone, Copy, Drop)]
 pub struct Cutter<'t> {
     marks: Marks,
-    // what follows the header, and how many bytes the header has
-    body: &'t [u8],
-    offset: usize,
-    // where in the body the next segment begins, and how many were handed out
-    at: usize,
-    number: usize,
-    fault: Option<CutFault>,
+    rest: Result<Rest<'t>, CutFault>,
     ghost sound: { lawful marks ≡ true },
-    ghost within: { at ≤ length body.now },
-    ghost counted: { number ≤ at },
-    ghost counting: { offset + length body.now < 2 ^ 64 },
 }

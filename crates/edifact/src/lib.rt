@@ -4,5 +4,6 @@
 pub mod component;
 pub mod cutter;
 pub mod element;
+pub mod part;
 mod scan;
 pub mod segment;

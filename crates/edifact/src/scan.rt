@@ -1,19 +1,21 @@
-// Finding the segment with which bytes begin.
-ghost use Rattle.std.specs.Prelude.{◌≡◌, ◌+◌, ◌^◌, ◌<◌, ◌≤◌, false, length as size, IfOk};
+// Finding the segment with which a text begins.
+ghost use Rattle.std.specs.Prelude.{◌≡◌, ◌+◌, ◌^◌, ◌<◌, ◌≤◌, false, length as size, slice_index, IfOk};
 ghost use Rattle.syntax.specs.Bytes.{break_run};
-ghost use Rattle.syntax.specs.Split.{characters as characters_in};
+ghost use Rattle.syntax.specs.Cursors.{characters_left};
 ghost use Rattle.edifact.specs.Segments.{is_tag, tag_in, tag_of};
 ghost use Rattle.edifact.specs.Scanning.{after, placed, end_in, segment_in};
 
-use syntax::bytes::{is_allowed, is_line_break, is_mark, is_release};
+use crate::element::Element;
+use crate::part::Text;
+use syntax::bytes::{is_allowed, is_line_break, is_release};
 use syntax::characters::Characters;
 use syntax::fault::{CutFault, Place};
 use syntax::marks::Marks;
-use syntax::pieces::first_piece;
 
 // Length and tag of a segment.
 #[derive(Clone, Copy, Drop)]
 pub struct Found {
+    // of the segment: a tag always has three letters
     pub length: usize,
     pub tag: [u8; 3],
 }
@@ -21,25 +23,26 @@ pub struct Found {
 // Where a scan stands in a segment: whether the next byte is protected, and the element and component it is in.
 #[derive(Clone, Copy, Drop)]
 pub struct Standing {
+    // a flag: no other value stands beside it
     protected: bool,
     element: usize,
     component: usize,
 }
 
 impl Standing {
-    // The standing behind one byte more.
+    // The standing behind one byte more. Neither count passes the bytes that were scanned.
     fn behind(self, b: u8, marks: Marks) -> Standing
         requires { (self.element + 1 < 2 ^ 64) × (self.component + 1 < 2 ^ 64) }
         ensures { result ≡ after marks self b }
     {
         let protected = is_release(b, marks.release, self.protected);
-        if is_mark(b, marks.release, marks.element, self.protected) {
+        if marks.elements().divides(b, self.protected) {
             Standing {
                 protected,
                 element: self.element + 1,
                 component: 1,
             }
-        } else if is_mark(b, marks.release, marks.component, self.protected) {
+        } else if marks.components().divides(b, self.protected) {
             Standing {
                 protected,
                 component: self.component + 1,
@@ -62,102 +65,73 @@ impl Standing {
     }
 }
 
-// The length of segment `number`, with which `text` begins.
-pub fn segment_end(text: &[u8], marks: Marks, number: usize) -> Result<usize, CutFault>
-    ensures value { result ≡ end_in marks number text.now }
-    ensures within { IfOk result (λ n. n < size text.now) }
-{
-    let mut i = 0;
-    let mut standing = Standing {
-        protected: false,
-        element: 0,
-        component: 1,
-    };
-    while i < text.len() {
-        let b = text[i];
-        if is_mark(b, marks.release, marks.terminator, standing.protected) {
-            return Ok(i);
-        }
-        if !is_allowed(b) {
-            return Err(CutFault::ForbiddenByte(standing.place(number)));
-        }
-        standing = standing.behind(b, marks);
-        i += 1;
-    }
-    Err(CutFault::UnendedSegment(standing.place(number)))
-}
-
 // Whether three characters are a tag.
-pub fn is_tag(a: u8, b: u8, c: u8) -> bool
-    ensures { result ≡ is_tag a b c }
+fn is_tag(tag: [u8; 3]) -> bool
+    ensures { result ≡ is_tag (slice_index tag 0) (slice_index tag 1) (slice_index tag 2) }
 {
-    b'A' <= a
-        && a <= b'Z'
-        && b'A' <= b
-        && b <= b'Z'
-        && b'A' <= c
-        && c <= b'Z'
-        && !(a == b'U' && b == b'N' && c == b'A')
+    tag.iter().all(|b| b.is_ascii_uppercase()) && tag != *b"UNA"
 }
 
-// The characters of `bytes`, if they are a tag.
-fn tag_in(bytes: &[u8], release: u8) -> Option<[u8; 3]>
-    ensures { result ≡ tag_in (characters_in release false bytes.now) }
+// These characters, if they are a tag.
+fn tag_in(mut characters: Characters<'_>) -> Option<[u8; 3]>
+    ensures { result ≡ tag_in (characters_left characters.entry) }
 {
-    let mut characters = Characters::of(bytes, release);
-    let Some(a) = characters.next() else {
-        return None;
-    };
-    let Some(b) = characters.next() else {
-        return None;
-    };
-    let Some(c) = characters.next() else {
-        return None;
-    };
-    if let Some(_) = characters.next() {
-        return None;
-    }
-    if is_tag(a, b, c) {
-        Some([a, b, c])
-    } else {
-        None
-    }
+    let tag = [characters.next()?, characters.next()?, characters.next()?];
+    (characters.next().is_none() && is_tag(tag)).then_some(tag)
 }
 
-// The tag of a segment.
-pub fn tag_of(bytes: &[u8], marks: Marks) -> Option<[u8; 3]>
-    ensures { result ≡ tag_of marks bytes.now }
+// How many CR and LF `bytes` begins with.
+pub fn break_count(bytes: &[u8]) -> usize
+    ensures value { result ≡ break_run bytes.now }
+    ensures within { result ≤ size bytes.now }
 {
-    let n = first_piece(bytes, marks.release, marks.element);
-    let (head, _) = bytes.split_at(n);
-    if first_piece(head, marks.release, marks.component) < n {
-        None
-    } else {
-        tag_in(head, marks.release)
-    }
+    bytes.iter().take_while(|b| is_line_break(**b)).count()
 }
 
-// How many CR and LF `text` begins with.
-pub fn break_count(text: &[u8]) -> usize
-    ensures value { result ≡ break_run text.now }
-    ensures within { result ≤ size text.now }
-{
-    let mut i = 0;
-    while i < text.len() && is_line_break(text[i]) {
-        i += 1;
+impl<'t> Text<'t> {
+    // The length of segment `number`, with which it begins.
+    fn segment_end(&self, number: usize) -> Result<usize, CutFault>
+        ensures value { result ≡ end_in self.now.marks number self.now.bytes.now }
+        ensures within { IfOk result (λ n. n < size self.now.bytes.now) }
+    {
+        let marks = self.marks;
+        let mut standing = Standing {
+            protected: false,
+            element: 0,
+            component: 1,
+        };
+        for (i, b) in self.bytes.iter().enumerate() {
+            if marks.segments().divides(*b, standing.protected) {
+                return Ok(i);
+            }
+            if !is_allowed(*b) {
+                return Err(CutFault::ForbiddenByte(standing.place(number)));
+            }
+            standing = standing.behind(*b, marks);
+        }
+        Err(CutFault::UnendedSegment(standing.place(number)))
     }
-    i
-}
 
-// Length and tag of segment `number`, with which `text` begins.
-pub fn first_segment(text: &[u8], marks: Marks, number: usize) -> Result<Found, CutFault>
-    ensures value { result ≡ segment_in marks number text.now }
-    ensures within { IfOk result (λ x. x.length < size text.now) }
-{
-    let length = segment_end(text, marks, number)?;
-    let (segment, _) = text.split_at(length);
-    match tag_of(segment, marks) {
-        Some(tag) => Ok(Found { length, tag }),
-        None => Err(CutFault::BadTag(number)),
+    // The tag of a segment: the characters of its first element, which has one component.
+    fn tag(&self) -> Option<[u8; 3]>
+        ensures { result ≡ tag_of self.now.marks self.now.bytes.now }
+    {
+        let element: Element<'t> = self.part(self.marks.elements(), 0)?;
+        if element.component_count() != 1 {
+            return None;
+        }
+        tag_in(Characters::of(element.bytes, element.marks.release))
+    }
+
+    // Length and tag of segment `number`, with which it begins.
+    pub(crate) fn first_segment(&self, number: usize) -> Result<Found, CutFault>
+        ensures value { result ≡ segment_in self.now.marks number self.now.bytes.now }
+        ensures within { IfOk result (λ x. x.length < size self.now.bytes.now) }
+    {
+        let length = self.segment_end(number)?;
+        let (bytes, _) = self.bytes.split_at(length);
+        let segment: Text<'t> = Text::of(self.marks, bytes);
+        let tag = segment.tag().ok_or(CutFault::BadTag(number))?;
+        Ok(Found { length, tag })
     }
 }

@@ -1,7 +1,8 @@
 pub mod Values
 pub mod Measures
 pub mod Stretches
-pub mod PartSteps
-pub mod Rules
 pub mod Codes
+pub mod Rules
+pub mod PartSteps
 pub mod Passes
+pub mod Rests

@@ -1,14 +1,15 @@
 -- The first component of a segment's bytes, and what is behind it.
-use Rattle.std.proofs.Common.{◌≡◌, ℕ, suc, Bool, true, false, cond, not, ◌&&◌, ◌||◌, eqb, ◌⊎◌, List, [], ◌∷◌, map, length, take, drop, sym, refl, ap, ◌∙◌, subst, inl, inr, arith}
-use Rattle.std.proofs.lemmas.Bool.{cond-true, cond-false, and_parts, and_from, eqb-true, eq-eqb, ne_eqb, not-true, both_ways, cases_Bool, or_left, or_right, or_from}
+use Rattle.std.proofs.Common.{◌≡◌, ℕ, suc, Bool, true, false, cond, not, ◌&&◌, ◌||◌, eqb, ◌≤◌, ◌⊎◌, List, [], ◌∷◌, map, length, take, drop, sym, refl, ap, ◌∙◌, subst, inl, inr, arith}
+use Rattle.std.proofs.lemmas.List.{length-map}
+use Rattle.std.proofs.lemmas.Bool.{cond-true, cond-false, cond_both, true≢false, and_parts, and_from, eqb-true, eq-eqb, not-true, both_ways, cases_Bool, or_left, or_right, or_from}
 use Rattle.syntax.specs.declared.marks.Marks.{Marks}
 use Rattle.syntax.specs.Split.{releases, divides, onto, split, characters}
 use Rattle.edifact.specs.Segments.{elements, components, parts_of}
 use Rattle.message.specs.Judging.{first, others}
 use Rattle.message.specs.Messages.{behind_tag}
 use Rattle.examiner.specs.Measuring.{stretch}
-use Rattle.examiner.specs.declared.parts.Parts.{Parts}
-use Rattle.examiner.specs.Parts.{texts_of, same_element, next_elements, current, later}
+use Rattle.examiner.specs.Texts.{has_more}
+use Rattle.examiner.specs.Parts.{texts_of, same_element, next_elements}
 
 -- pieces of bytes that may begin protected, the first with that flag
 module _ (r c e : ℕ) where
@@ -23,10 +24,6 @@ module _ (r c e : ℕ) where
   abbrev in_others : List ℕ → List (List (List ℕ))
   in_others [] = []
   in_others (b ∷ bs) = cond (eqb b e) (parts_from false (split r e false bs)) (others (parts_from false (split r e false bs)))
-
-  -- the first component with what is behind it
-  abbrev Stretched : Bool → List ℕ → Type 0
-  Stretched p bs = parts_from p (split r e p bs) ≡ (take (stretch r c e p bs) bs ∷ in_first (drop (stretch r c e p bs) bs)) ∷ in_others (drop (stretch r c e p bs) bs)
 
   split_plain : (m : ℕ) (p : Bool) (b : ℕ) (x : List ℕ) → divides r m p b ≡ false → split r m p (b ∷ x) ≡ onto b (split r m (releases r p b) x)
   split_plain m p b x h = cond-false (divides r m p b) ([] ∷ split r m (releases r p b) x) (onto b (split r m (releases r p b) x)) h
@@ -77,9 +74,6 @@ module _ (r c e : ℕ) where
       let s : split r c p (b ∷ x) ≡ [] ∷ split r c false x = split_mark c p b x dc ∙ ap (λ (t : Bool). [] ∷ split r c t x) q in
       ap (λ (y : List (List ℕ)). y ∷ map (split r c false) xs) s
 
-  step-element : (p : Bool) (b : ℕ) (xs : List (List ℕ)) → parts_from p ([] ∷ xs) ≡ ([] ∷ []) ∷ map (split r c false) xs
-  step-element p b xs = refl
-
   parts_false : (bs : List ℕ) → map (split r c false) (split r e false bs) ≡ parts_from false (split r e false bs)
   parts_false bs = let (x, xs, k) = split-some e false bs in subst (λ (ys : List (List ℕ)). map (split r c false) ys ≡ parts_from false ys) (sym k) refl
 
@@ -90,7 +84,7 @@ module _ (r c e : ℕ) where
   stretch-plain : (p : Bool) (b : ℕ) (bs : List ℕ) → (divides r c p b || divides r e p b) ≡ false → stretch r c e p (b ∷ bs) ≡ suc (stretch r c e (releases r p b) bs)
   stretch-plain p b bs h = cond-false (divides r c p b || divides r e p b) 0 (suc (stretch r c e (releases r p b) bs)) h
 
-  -- the same with the length of the stretch as a number of its own
+  -- the first component with what is behind it, the length of the stretch as a number of its own
   abbrev StretchedBy : Bool → List ℕ → ℕ → Type 0
   StretchedBy p bs n = parts_from p (split r e p bs) ≡ (take n bs ∷ in_first (drop n bs)) ∷ in_others (drop n bs)
 
@@ -124,6 +118,27 @@ module _ (r c e : ℕ) where
       at (inr h) (inl k) ih = subst (StretchedBy p (b ∷ bs)) (sym (stretch_mark p b bs (or_left (divides r c p b) (divides r e p b) k))) (by-component p b bs h k)
       at (inr h) (inr k) ih = subst (StretchedBy p (b ∷ bs)) (sym (stretch-plain p b bs (or_from (divides r c p b) (divides r e p b) k h))) (by-plain p b bs (stretch r c e (releases r p b) bs) h k ih)
 
+-- at most one piece more than there are bytes, the first no longer than them
+length-onto : (b n : ℕ) (ps : List (List ℕ)) → length ps ≤ suc n → length (onto b ps) ≤ suc n
+length-onto b n [] h = omega arith
+length-onto b n (p ∷ ps) h = h
+
+few_pieces : (r m : ℕ) (p : Bool) (bs : List ℕ) → length (split r m p bs) ≤ suc (length bs)
+few_pieces r m p [] = omega arith
+few_pieces r m p (b ∷ bs) =
+    cond_both (divides r m p b) ([] ∷ split r m (releases r p b) bs) (onto b (split r m (releases r p b) bs)) (λ ps. length ps ≤ suc (suc (length bs)))
+    (λ _. omega (arith, few_pieces r m (releases r p b) bs)) (λ _. length-onto b (suc (length bs)) (split r m (releases r p b) bs) (omega (arith, few_pieces r m (releases r p b) bs)))
+
+first_onto : (b : ℕ) (ps : List (List ℕ)) → first (onto b ps) ≡ b ∷ first ps
+first_onto b [] = refl
+first_onto b (p ∷ ps) = refl
+
+first_short : (r m : ℕ) (p : Bool) (bs : List ℕ) → length (first (split r m p bs)) ≤ length bs
+first_short r m p [] = omega arith
+first_short r m p (b ∷ bs) =
+    cond_both (divides r m p b) ([] ∷ split r m (releases r p b) bs) (onto b (split r m (releases r p b) bs)) (λ ps. length (first ps) ≤ suc (length bs))
+    (λ _. omega arith) (λ _. omega (arith, ap length (first_onto b (split r m (releases r p b) bs)), first_short r m (releases r p b) bs))
+
 -- the same of a segment's parts, by their characters
 module _ (m : Marks) where
   read : List (List (List ℕ)) → List (List (List ℕ))
@@ -139,7 +154,7 @@ module _ (m : Marks) where
 
   in_first_lem : (bs : List ℕ) → map (characters m.release false) (in_first m.release m.component m.element bs) ≡ same_element m bs
   in_first_lem [] = refl
-  in_first_lem (b ∷ bs) = at (eqb b m.element) ∙ sym (cond-false (eqb (suc (length bs)) 0) [] (cond (eqb b m.element) [] (first (texts_of m bs))) (ne_eqb (suc (length bs)) 0 (λ z. omega arith)))
+  in_first_lem (b ∷ bs) = at (eqb b m.element)
     where
       at : (t : Bool) → map (characters m.release false) (cond t [] (first (parts_from m.release m.component m.element false (elements m bs)))) ≡ cond t [] (first (texts_of m bs))
       at true = refl
@@ -147,7 +162,7 @@ module _ (m : Marks) where
 
   in_others_lem : (bs : List ℕ) → map (map (characters m.release false)) (in_others m.release m.component m.element bs) ≡ next_elements m bs
   in_others_lem [] = refl
-  in_others_lem (b ∷ bs) = at (eqb b m.element) ∙ sym (cond-false (eqb (suc (length bs)) 0) [] (cond (eqb b m.element) (texts_of m bs) (others (texts_of m bs))) (ne_eqb (suc (length bs)) 0 (λ z. omega arith)))
+  in_others_lem (b ∷ bs) = at (eqb b m.element)
     where
       at : (t : Bool) → map (map (characters m.release false)) (cond t (parts_from m.release m.component m.element false (elements m bs)) (others (parts_from m.release m.component m.element false (elements m bs)))) ≡ cond t (texts_of m bs) (others (texts_of m bs))
       at true = ap (map (map (characters m.release false))) (sym (parts_false m.release m.component m.element bs))
@@ -163,59 +178,33 @@ module _ (m : Marks) where
       ∙ ap (λ (ys : List (List (List ℕ))). (characters m.release false (take n bs) ∷ same_element m (drop n bs)) ∷ ys) (in_others_lem (drop n bs))
 
   -- an element always has a component
+  pub first_more : (bs : List ℕ) → true ≡ has_more (first (texts_of m bs))
+  first_more bs = sym (ap (λ (ts : List (List (List ℕ))). has_more (first ts)) (texts-step bs (stretch m.release m.component m.element false bs) refl))
+
   pub first_some : (bs : List ℕ) → first (texts_of m bs) ≡ [] → ⊥
-  first_some bs e =
-      let s = ap first (texts-step bs (stretch m.release m.component m.element false bs) refl) in
-      let z : ◌≡◌ {A = ℕ} 0 1 = cc in
-      omega arith
+  first_some bs e = let z : true ≡ false = first_more bs ∙ ap has_more e in true≢false z
 
--- The cursor
+  -- the bytes hold at most one component more than there are bytes
+  pub first_few : (bs : List ℕ) → length (first (texts_of m bs)) ≤ suc (length bs)
+  first_few bs =
+      let (x, xs, k) = split-some m.release m.component m.element m.element false bs in
+      let short : length x ≤ length bs = omega (arith, ap (λ (ps : List (List ℕ)). length (first ps)) k, first_short m.release m.element false bs) in
+      let here : first (texts_of m bs) ≡ map (characters m.release false) (components m x) = ap (λ (ps : List (List ℕ)). first (map (map (characters m.release false)) (map (components m) ps))) k in
+      omega (arith, ap length here, length-map (components m x) (characters m.release false), few_pieces m.release m.component false x, short)
 
-module _ (p : Parts) where
-  -- inside an element, a component is left
-  pub inside-some : p.inside ≡ true → current p ≡ [] → ⊥
-  inside-some e h = first_some p.marks p.rest.now (sym (cond-true p.inside (first (texts_of p.marks p.rest.now)) [] e) ∙ h)
+  -- the bytes behind the first component
+  module _ (bs rest : List ℕ) (n : ℕ) (at : n ≡ stretch m.release m.component m.element false bs) (behind : rest ≡ drop n bs) where
+    step : texts_of m bs ≡ (characters m.release false (take n bs) ∷ same_element m rest) ∷ next_elements m rest
+    step = texts-step bs n at ∙ ap (λ (ys : List ℕ). (characters m.release false (take n bs) ∷ same_element m ys) ∷ next_elements m ys) (sym behind)
 
-  module _ (n : ℕ) (rest : List ℕ) (e : p.inside ≡ true) (at : n ≡ stretch p.marks.release p.marks.component p.marks.element false p.rest.now) (behind : rest ≡ drop n p.rest.now) where
-    step : texts_of p.marks p.rest.now ≡ (characters p.marks.release false (take n p.rest.now) ∷ same_element p.marks rest) ∷ next_elements p.marks rest
-    step = texts-step p.marks p.rest.now n at ∙ ap (λ (bs : List ℕ). (characters p.marks.release false (take n p.rest.now) ∷ same_element p.marks bs) ∷ next_elements p.marks bs) (sym behind)
+    pub first_component_is : first (first (texts_of m bs)) ≡ characters m.release false (take n bs)
+    first_component_is = ap (λ (ts : List (List (List ℕ))). first (first ts)) step
 
-    here : current p ≡ characters p.marks.release false (take n p.rest.now) ∷ same_element p.marks rest
-    here = cond-true p.inside (first (texts_of p.marks p.rest.now)) [] e ∙ ap first step
+    pub other_components_are : others (first (texts_of m bs)) ≡ same_element m rest
+    other_components_are = ap (λ (ts : List (List (List ℕ))). others (first ts)) step
 
-    pub first_component_is : first (current p) ≡ characters p.marks.release false (take n p.rest.now)
-    first_component_is = ap first here
-
-    pub other_components_are : others (current p) ≡ same_element p.marks rest
-    other_components_are = ap others here
-
-    pub later_elements_are : later p ≡ next_elements p.marks rest
-    later_elements_are = cond-true p.inside (others (texts_of p.marks p.rest.now)) (cond p.more (texts_of p.marks p.rest.now) []) e ∙ ap others step
-
--- Every element has a component
-
-map-some : (f : List ℕ → List ℕ) (xs : List (List ℕ)) → map f xs ≡ [] → xs ≡ []
-map-some f [] e = refl
-map-some f (x ∷ xs) e = let z : ◌≡◌ {A = ℕ} 0 1 = cc in absurd (omega arith)
-
-components-some : (m : Marks) (x : List ℕ) → components m x ≡ [] → ⊥
-components-some m x e = let (y, ys, k) = split-some m.release m.component m.element m.component false x in let z : ◌≡◌ {A = ℕ} 0 1 = cc in omega arith
-
-read_some : (m : Marks) (es : List (List ℕ)) → first (map (map (characters m.release false)) (map (components m) es)) ≡ [] → map (map (characters m.release false)) (map (components m) es) ≡ []
-read_some m [] h = refl
-read_some m (x ∷ xs) h = absurd (components-some m x (map-some (characters m.release false) (components m x) h))
-
-others-some : (m : Marks) (es : List (List ℕ)) → first (others (map (map (characters m.release false)) (map (components m) es))) ≡ [] → others (map (map (characters m.release false)) (map (components m) es)) ≡ []
-others-some m [] h = refl
-others-some m (x ∷ xs) h = read_some m xs h
-
-pub later-some : (p : Parts) → first (later p) ≡ [] → later p ≡ []
-later-some p = at p.inside p.more
-  where
-    at : (i o : Bool) → first (cond i (others (texts_of p.marks p.rest.now)) (cond o (texts_of p.marks p.rest.now) [])) ≡ [] → cond i (others (texts_of p.marks p.rest.now)) (cond o (texts_of p.marks p.rest.now) []) ≡ []
-    at true o h = others-some p.marks (elements p.marks p.rest.now) h
-    at false true h = read_some p.marks (elements p.marks p.rest.now) h
-    at false false h = refl
+    pub later_elements_are : others (texts_of m bs) ≡ next_elements m rest
+    later_elements_are = ap others step
 
 -- the elements behind the tag
 pub behind-tag : (m : Marks) (bs : List ℕ) → others (texts_of m bs) ≡ map (map (characters m.release false)) (behind_tag (parts_of m bs))
@@ -224,3 +213,7 @@ behind-tag m bs = at (parts_of m bs)
     at : (ps : List (List (List ℕ))) → others (map (map (characters m.release false)) ps) ≡ map (map (characters m.release false)) (behind_tag ps)
     at [] = refl
     at (x ∷ xs) = refl
+
+pub ruleset cursor_steps = (first_some, first_more, first_few)
+
+pub ruleset measure_steps = (first_component_is, other_components_are, later_elements_are)

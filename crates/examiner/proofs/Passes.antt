@@ -1,32 +1,33 @@
--- The pass over an element's components.
-use Rattle.std.proofs.Common.{◌≡◌, ℕ, suc, ◌+◌, ◌<◌, ◌≤◌, Bool, true, false, cond, eqb, List, [], ◌∷◌, map, length, drop, is_some, Some, None, Option, sym, refl, ap, ◌∙◌, add-one, arith}
-use Rattle.std.proofs.lemmas.Bool.{cond-false, ne_eqb}
+-- The pass over an element's components, and over a segment's elements.
+use Rattle.std.proofs.Common.{◌≡◌, ℕ, suc, ◌+◌, ◌<◌, Bool, true, false, cond, eqb, List, [], ◌∷◌, map, length, drop, is_some, Some, None, Option, sym, refl, ap, ◌∙◌, add-one, arith}
+use Rattle.std.proofs.lemmas.Bool.{cond-false}
+use Rattle.std.proofs.lemmas.List.{drop_all}
+use Rattle.std.proofs.lemmas.Option.{none-some, slice_get_within}
 use Rattle.std.specs.List.{slice_get}
-use Rattle.std.specs.Option.{option_map}
+use Rattle.std.specs.Option.{option_map, option_or}
 use Rattle.std.specs.Str.{bytes_eq}
 use Rattle.syntax.specs.declared.marks.DecimalMark.{DecimalMark}
 use Rattle.message.specs.declared.layout.Status.{Status}
 use Rattle.message.specs.declared.layout.Status.TheVariants.{Required, Unused, Optional}
 use Rattle.message.specs.declared.layout.Spot.{Spot}
-use Rattle.message.specs.declared.layout.ComponentRule.{ComponentRule}
-use Rattle.message.specs.declared.layout.ElementRule.{ElementRule}
 use Rattle.message.specs.declared.layout.SegmentFault.{SegmentFault}
 use Rattle.message.specs.declared.layout.SegmentFault.TheVariants as fault
-use Rattle.message.specs.Layouts.{Component, Element, Layout, all, status_of, of_class, size, within, component_rule, layout_rule, component_head, element_head, element_in, component_in, element_at, component_at}
-use Rattle.message.specs.Judging.{first, others, spot, or_else, among, listed, value_fault, component_fault, components_fault, first_filled, whole_fault, element_fault, elements_fault, layout_fault}
-use Rattle.message.specs.Messages.{layout_of, behind_tag}
+use Rattle.message.specs.Layouts.{Component, Element, Layout, status_of, of_class, size, within, component_rule}
+use Rattle.message.specs.Judging.{first, others, spot, or_else, among, listed, value_fault, component_fault, components_fault, first_filled, whole_fault, element_fault, elements_fault}
+use Rattle.examiner.specs.declared.measure.Measure.{Measure}
+use Rattle.examiner.specs.declared.layout_check.Tally.{Tally}
+use Rattle.examiner.specs.Measuring.{size_in, measure_of}
+use Rattle.examiner.specs.Texts.{Texts, has_more}
+use Rattle.examiner.specs.Checking.{ComponentAt, ElementAt, component_of, element_of, among_in, listed_in, value_in, component_by, component_in, filled_by, beyond_at, part_fault}
+use Rattle.examiner.specs.Passing.{tallied, Passing}
+use Rattle.examiner.proofs.Measures.{filled-measured, class-measured, size-measured, spelled-measured}
 use Rattle.syntax.specs.declared.marks.Marks.{Marks}
 use Rattle.syntax.specs.Split.{characters}
 use Rattle.edifact.specs.Segments.{parts_of}
-use Rattle.examiner.specs.declared.measure.Measure.{Measure}
-use Rattle.examiner.specs.declared.parts.Parts.{Parts}
-use Rattle.examiner.specs.Measuring.{size_in, measure_of}
-use Rattle.examiner.specs.Parts.{current, later, texts_of}
-use Rattle.examiner.specs.Checking.{codes_of, codes_at, among_in, listed_in, value_in, filled_by, or_first, beyond_at, part_fault, rules_of, rules_at, Passing, element_by}
-use Rattle.examiner.specs.Checking as checking
-use Rattle.examiner.proofs.Measures.{count_measured, class-measured, size-measured, spelled-measured}
-use Rattle.examiner.proofs.PartSteps.{inside-some, later-some, behind-tag}
-use Rattle.examiner.proofs.Rules.{nth_within, nth_drop, nth_end, Short, codes_short, component_rule_lem, few-components, element_rule_lem}
+use Rattle.message.specs.Messages.{behind_tag}
+use Rattle.examiner.specs.Parts.{texts_of}
+use Rattle.examiner.proofs.PartSteps.{behind-tag}
+use Rattle.examiner.proofs.Rules.{nth_drop, nth_some, nth_end, Short, codes_short}
 
 -- A measured component
 
@@ -40,26 +41,24 @@ listed-measured : (d : DecimalMark) (codes : List (List ℕ)) (cs : List ℕ) �
 listed-measured d [] cs h = refl
 listed-measured d (code ∷ codes) cs h = among-measured d (code ∷ codes) cs h
 
-value_measured : (r : Component) (d : DecimalMark) (at : Spot) (cs : List ℕ) → component_rule r ≡ true → value_in r.class r.extent r.codes at (measure_of d cs) ≡ value_fault r d at cs
-value_measured r d at cs h =
-    ap (λ (t : Bool). cond t (cond (within r.extent (size_in r.class (measure_of d cs))) (cond (listed_in r.codes (measure_of d cs)) None (Some (fault.NotListed at))) (Some (fault.WrongLength at))) (Some (fault.WrongClass at))) (class-measured r.class d cs)
-    ∙ ap (λ (n : ℕ). cond (of_class r.class d cs) (cond (within r.extent n) (cond (listed_in r.codes (measure_of d cs)) None (Some (fault.NotListed at))) (Some (fault.WrongLength at))) (Some (fault.WrongClass at))) (size-measured r.class d cs)
-    ∙ ap (λ (t : Bool). cond (of_class r.class d cs) (cond (within r.extent (size r.class cs)) (cond t None (Some (fault.NotListed at))) (Some (fault.WrongLength at))) (Some (fault.WrongClass at))) (listed-measured d r.codes cs (codes_short r h))
+value_measured : (k : ComponentAt) (d : DecimalMark) (cs : List ℕ) → component_rule k.component ≡ true → value_in k (measure_of d cs) ≡ value_fault k.component d k.spot cs
+value_measured k d cs h =
+    let r : Component = k.component in
+    ap (λ (t : Bool). cond t (cond (within r.extent (size_in r.class (measure_of d cs))) (cond (listed_in r.codes (measure_of d cs)) None (Some (fault.NotListed k.spot))) (Some (fault.WrongLength k.spot))) (Some (fault.WrongClass k.spot))) (class-measured r.class d cs)
+    ∙ ap (λ (n : ℕ). cond (of_class r.class d cs) (cond (within r.extent n) (cond (listed_in r.codes (measure_of d cs)) None (Some (fault.NotListed k.spot))) (Some (fault.WrongLength k.spot))) (Some (fault.WrongClass k.spot))) (size-measured r.class d cs)
+    ∙ ap (λ (t : Bool). cond (of_class r.class d cs) (cond (within r.extent (size r.class cs)) (cond t None (Some (fault.NotListed k.spot))) (Some (fault.WrongLength k.spot))) (Some (fault.WrongClass k.spot))) (listed-measured d r.codes cs (codes_short r h))
 
-empty-measured : (d : DecimalMark) → eqb (measure_of d []).count 0 ≡ true
-empty-measured d = refl
+by_measured : (st : Option Status) (k : ComponentAt) (d : DecimalMark) (cs : List ℕ) → component_rule k.component ≡ true → component_by st k (measure_of d cs) ≡ component_fault st k.component d k.spot cs
+by_measured None k d cs h = refl
+by_measured (Some Required) k d [] h = refl
+by_measured (Some Required) k d (c ∷ cs) h = cond-false (eqb (measure_of d (c ∷ cs)).count 0) (Some (fault.Missing k.spot)) (value_in k (measure_of d (c ∷ cs))) (filled-measured d c cs) ∙ value_measured k d (c ∷ cs) h
+by_measured (Some Unused) k d [] h = refl
+by_measured (Some Unused) k d (c ∷ cs) h = cond-false (eqb (measure_of d (c ∷ cs)).count 0) None (Some (fault.Unused k.spot)) (filled-measured d c cs)
+by_measured (Some Optional) k d [] h = refl
+by_measured (Some Optional) k d (c ∷ cs) h = cond-false (eqb (measure_of d (c ∷ cs)).count 0) None (value_in k (measure_of d (c ∷ cs))) (filled-measured d c cs) ∙ value_measured k d (c ∷ cs) h
 
-filled-measured : (d : DecimalMark) (c : ℕ) (cs : List ℕ) → eqb (measure_of d (c ∷ cs)).count 0 ≡ false
-filled-measured d c cs = ap (λ (n : ℕ). eqb n 0) (count_measured d (c ∷ cs)) ∙ ne_eqb (suc (length cs)) 0 (λ z. omega arith)
-
-component-measured : (st : Option Status) (r : Component) (d : DecimalMark) (at : Spot) (cs : List ℕ) → component_rule r ≡ true → checking.component_in st r.class r.extent r.codes at (measure_of d cs) ≡ component_fault st r d at cs
-component-measured None r d at cs h = refl
-component-measured (Some Required) r d at [] h = refl
-component-measured (Some Required) r d at (c ∷ cs) h = cond-false (eqb (measure_of d (c ∷ cs)).count 0) (Some (fault.Missing at)) (value_in r.class r.extent r.codes at (measure_of d (c ∷ cs))) (filled-measured d c cs) ∙ value_measured r d at (c ∷ cs) h
-component-measured (Some Unused) r d at [] h = refl
-component-measured (Some Unused) r d at (c ∷ cs) h = cond-false (eqb (measure_of d (c ∷ cs)).count 0) None (Some (fault.Unused at)) (filled-measured d c cs)
-component-measured (Some Optional) r d at [] h = refl
-component-measured (Some Optional) r d at (c ∷ cs) h = cond-false (eqb (measure_of d (c ∷ cs)).count 0) None (value_in r.class r.extent r.codes at (measure_of d (c ∷ cs))) (filled-measured d c cs) ∙ value_measured r d at (c ∷ cs) h
+component-measured : (k : ComponentAt) (d : DecimalMark) (cs : List ℕ) → component_rule k.component ≡ true → component_in k (measure_of d cs) ≡ component_fault (status_of k.component.status) k.component d k.spot cs
+component-measured k d cs h = by_measured (status_of k.component.status) k d cs h
 
 -- The first filled component
 
@@ -67,218 +66,147 @@ fills-empty : (d : DecimalMark) (f : Option ℕ) (k : ℕ) → filled_by f k (me
 fills-empty d None k = refl
 fills-empty d (Some j) k = refl
 
-pub fills-step : (d : DecimalMark) (f : Option ℕ) (k : ℕ) (xs : List (List ℕ)) → or_first (filled_by f k (measure_of d (first xs))) (first_filled (k + 1) (others xs)) ≡ or_first f (first_filled k xs)
-fills-step d f k [] = ap (λ (g : Option ℕ). or_first g None) (fills-empty d f k)
-fills-step d f k ([] ∷ xs) = ap (λ (g : Option ℕ). or_first g (first_filled (k + 1) xs)) (fills-empty d f k)
-fills-step d None k ((c ∷ cs) ∷ xs) = ap (λ (g : Option ℕ). or_first g (first_filled (k + 1) xs)) (cond-false (eqb (measure_of d (c ∷ cs)).count 0) None (Some k) (filled-measured d c cs))
+fills-step : (d : DecimalMark) (f : Option ℕ) (k : ℕ) (xs : List (List ℕ)) → option_or (filled_by f k (measure_of d (first xs))) (first_filled (k + 1) (others xs)) ≡ option_or f (first_filled k xs)
+fills-step d f k [] = ap (λ (g : Option ℕ). option_or g None) (fills-empty d f k)
+fills-step d f k ([] ∷ xs) = ap (λ (g : Option ℕ). option_or g (first_filled (k + 1) xs)) (fills-empty d f k)
+fills-step d None k ((c ∷ cs) ∷ xs) = ap (λ (g : Option ℕ). option_or g (first_filled (k + 1) xs)) (cond-false (eqb (measure_of d (c ∷ cs)).count 0) None (Some k) (filled-measured d c cs))
 fills-step d (Some j) k ((c ∷ cs) ∷ xs) = refl
 
 or_else_assoc : (a b c : Option SegmentFault) → or_else (or_else a b) c ≡ or_else a (or_else b c)
 or_else_assoc None b c = refl
 or_else_assoc (Some f) b c = refl
 
--- The pass
+-- The pass over an element's components
 
-pub passing_start : (d : DecimalMark) (e : ℕ) (rs : List Component) (xs : List (List ℕ)) → Passing d e rs xs 0 None None xs
-passing_start d e rs xs = record { fills = refl; inner = refl; surplus = refl }
+module _ (l : ElementAt) (old : Texts) where
+  abbrev rules : List Component
+  rules = l.element.components
 
-module _ (ls : List Layout) (regular : all layout_rule ls ≡ true) (row e : ℕ) where
-  component_in_rules : (o : Option Element) (c : ℕ) → component_in o c ≡ slice_get (rules_of o) c
-  component_in_rules None c = refl
-  component_in_rules (Some el) c = refl
-
-  -- the rule of a component that a book tells
-  pub rule_told : (c : ℕ) (rule : ComponentRule) → Some rule ≡ option_map component_head (component_at ls row e c) → (r : Component) × (slice_get (rules_at ls row e) c ≡ Some r) × (rule ≡ component_head r) × (codes_at ls row e c ≡ r.codes) × (component_rule r ≡ true)
-  rule_told c rule h = at (component_at ls row e c) refl h
+  component_here : (c : ℕ) (k : ComponentAt) → Some k ≡ option_map (component_of l.number (c + 1)) (slice_get rules c) → (r : Component) × (drop c rules ≡ r ∷ drop (c + 1) rules) × (k ≡ component_of l.number (c + 1) r)
+  component_here c k told = at (slice_get rules c) refl told
     where
-      at : (o : Option Component) → component_at ls row e c ≡ o → Some rule ≡ option_map component_head o → (r : Component) × (slice_get (rules_at ls row e) c ≡ Some r) × (rule ≡ component_head r) × (codes_at ls row e c ≡ r.codes) × (component_rule r ≡ true)
-      at None k x = let z : ◌≡◌ {A = ℕ} 0 1 = cc in absurd (omega arith)
-      at (Some r) k x = (r, sym (component_in_rules (element_at ls row e) c) ∙ k, cc, ap codes_of k, component_rule_lem ls regular row e c r k)
-
-  pub no_rule_told : (c : ℕ) → None ≡ option_map component_head (component_at ls row e c) → drop c (rules_at ls row e) ≡ []
-  no_rule_told c h = at (component_at ls row e c) refl h
-    where
-      at : (o : Option Component) → component_at ls row e c ≡ o → None ≡ option_map component_head o → drop c (rules_at ls row e) ≡ []
-      at None k x = nth_end (rules_at ls row e) c (sym (component_in_rules (element_at ls row e) c) ∙ k)
-      at (Some r) k x = let z : ◌≡◌ {A = ℕ} 0 1 = cc in absurd (omega arith)
-
-  pub rule_within : (c : ℕ) (rule : ComponentRule) → Some rule ≡ option_map component_head (component_at ls row e c) → c < length (rules_at ls row e)
-  rule_within c rule h = let t = rule_told c rule h in nth_within (rules_at ls row e) c t.0 t.1
-
-  rules_few : (o : Option Element) → ((el : Element) → o ≡ Some el → length el.components ≤ 40) → length (rules_of o) ≤ 40
-  rules_few None h = omega arith
-  rules_few (Some el) h = h el refl
-
-  pub few_rules : length (rules_at ls row e) ≤ 40
-  few_rules = rules_few (element_at ls row e) (λ el k. few-components ls regular row e el k)
+      at : (o : Option Component) → slice_get rules c ≡ o → Some k ≡ option_map (component_of l.number (c + 1)) o → (r : Component) × (drop c rules ≡ r ∷ drop (c + 1) rules) × (k ≡ component_of l.number (c + 1) r)
+      at None e h = absurd (none-some k (sym h))
+      at (Some r) e h = (r, rw add-one (nth_drop rules c r e), cc)
 
   -- one component more
-  pub passing_more : (d : DecimalMark) (xs : List (List ℕ)) (c : ℕ) (filled filled' : Option ℕ) (f f' g : Option SegmentFault) (left left' : List (List ℕ)) (rule : ComponentRule) (m : Measure) (at : Spot) →
-      Passing d (e + 1) (rules_at ls row e) xs c filled f left → Some rule ≡ option_map component_head (component_at ls row e c) → m ≡ measure_of d (first left) → left' ≡ others left → at ≡ spot (e + 1) (c + 1) →
-      filled' ≡ filled_by filled (c + 1) m → g ≡ checking.component_in (status_of rule.status) rule.class rule.extent (codes_at ls row e c) at m → f' ≡ or_else f g →
-      Passing d (e + 1) (rules_at ls row e) xs (c + 1) filled' f' left'
-  passing_more d xs c filled filled' f f' g left left' rule m at p h em el ea ef eg eh =
-      let (r, k, head, codes, lawful) = rule_told c rule h in
-      let here : drop c (rules_at ls row e) ≡ r ∷ drop (c + 1) (rules_at ls row e) = rw add-one (nth_drop (rules_at ls row e) c r k) in
-      let fault-here : g ≡ component_fault (status_of r.status) r d (spot (e + 1) (c + 1)) (first left) =
-      eg ∙ ap (λ (x : ComponentRule). checking.component_in (status_of x.status) x.class x.extent (codes_at ls row e c) at m) head
-      ∙ ap (λ (x : List (List ℕ)). checking.component_in (status_of r.status) r.class r.extent x at m) codes
-      ∙ ap (λ (x : Spot). checking.component_in (status_of r.status) r.class r.extent r.codes x m) ea
-      ∙ ap (λ (x : Measure). checking.component_in (status_of r.status) r.class r.extent r.codes (spot (e + 1) (c + 1)) x) em
-      ∙ component-measured (status_of r.status) r d (spot (e + 1) (c + 1)) (first left) lawful in
+  pub passing_more : (c : ℕ) (t u : Tally) (new newer : Texts) (k : ComponentAt) (m : Measure) → Passing l old c t new → Some k ≡ option_map (component_of l.number (c + 1)) (slice_get rules c) → component_rule k.component ≡ true →
+      m ≡ measure_of new.decimal (first new.current) → newer ≡ record new { current = others new.current } → u ≡ tallied t k m → Passing l old (c + 1) u newer
+  passing_more c t u new newer k m p told lawful em en eu =
+      let (r, here, ek) = component_here c k told in
+      let same : new.decimal ≡ old.decimal = ap (λ (x : Texts). x.decimal) p.stays in
+      let em' : m ≡ measure_of old.decimal (first new.current) = em ∙ ap (λ (d : DecimalMark). measure_of d (first new.current)) same in
+      let left : newer.current ≡ others new.current = ap (λ (x : Texts). x.current) en in
+      let filled : u.filled ≡ filled_by t.filled (c + 1) (measure_of old.decimal (first new.current)) =
+      ap (λ (x : Tally). x.filled) eu ∙ ap (λ (x : ComponentAt). filled_by t.filled x.spot.component m) ek ∙ ap (filled_by t.filled (c + 1)) em' in
+      let fault-here : u.fault ≡ or_else t.fault (component_fault (status_of r.status) r old.decimal (spot l.number (c + 1)) (first new.current)) =
+      ap (λ (x : Tally). x.fault) eu ∙ ap (λ (x : Measure). or_else t.fault (component_in k x)) em'
+      ∙ ap (or_else t.fault) (component-measured k old.decimal (first new.current) lawful ∙ ap (λ (x : ComponentAt). component_fault (status_of x.component.status) x.component old.decimal x.spot (first new.current)) ek) in
       record {
-        fills = ap (λ (x : Option ℕ). or_first x (first_filled (c + 1 + 1) left')) (ef ∙ ap (filled_by filled (c + 1)) em)
-            ∙ ap (λ (x : List (List ℕ)). or_first (filled_by filled (c + 1) (measure_of d (first left))) (first_filled (c + 1 + 1) x)) el
-            ∙ fills-step d filled (c + 1) left ∙ p.fills;
-        inner = ap (λ (x : Option SegmentFault). or_else x (components_fault true d (e + 1) (c + 1 + 1) (drop (c + 1) (rules_at ls row e)) left')) (eh ∙ ap (or_else f) fault-here)
-            ∙ ap (λ (x : List (List ℕ)). or_else (or_else f (component_fault (status_of r.status) r d (spot (e + 1) (c + 1)) (first left))) (components_fault true d (e + 1) (c + 1 + 1) (drop (c + 1) (rules_at ls row e)) x)) el
-            ∙ or_else_assoc f (component_fault (status_of r.status) r d (spot (e + 1) (c + 1)) (first left)) (components_fault true d (e + 1) (c + 1 + 1) (drop (c + 1) (rules_at ls row e)) (others left))
-            ∙ ap (λ (x : List Component). or_else f (components_fault true d (e + 1) (c + 1) x left)) (sym here)
+        fills = ap (λ (x : Option ℕ). option_or x (first_filled (c + 1 + 1) newer.current)) filled
+            ∙ ap (λ (x : List (List ℕ)). option_or (filled_by t.filled (c + 1) (measure_of old.decimal (first new.current))) (first_filled (c + 1 + 1) x)) left
+            ∙ fills-step old.decimal t.filled (c + 1) new.current ∙ p.fills;
+        inner = ap (λ (x : Option SegmentFault). or_else x (components_fault true old.decimal l.number (c + 1 + 1) (drop (c + 1) rules) newer.current)) fault-here
+            ∙ ap (λ (x : List (List ℕ)). or_else (or_else t.fault (component_fault (status_of r.status) r old.decimal (spot l.number (c + 1)) (first new.current))) (components_fault true old.decimal l.number (c + 1 + 1) (drop (c + 1) rules) x)) left
+            ∙ or_else_assoc t.fault (component_fault (status_of r.status) r old.decimal (spot l.number (c + 1)) (first new.current)) (components_fault true old.decimal l.number (c + 1 + 1) (drop (c + 1) rules) (others new.current))
+            ∙ ap (λ (x : List Component). or_else t.fault (components_fault true old.decimal l.number (c + 1) x new.current)) (sym here)
             ∙ p.inner;
-        surplus = ap (components_fault false d (e + 1) (c + 1 + 1) (drop (c + 1) (rules_at ls row e))) el
-            ∙ ap (λ (x : List Component). components_fault false d (e + 1) (c + 1) x left) (sym here)
+        surplus = ap (components_fault false old.decimal l.number (c + 1 + 1) (drop (c + 1) rules)) left
+            ∙ ap (λ (x : List Component). components_fault false old.decimal l.number (c + 1) x new.current) (sym here)
             ∙ p.surplus;
+        stays = en ∙ ap (λ (x : Texts). record x { current = others new.current }) p.stays ∙ ap (λ (x : List (List ℕ)). record old { current = x }) (sym left);
       }
+
+  pub component_missing : (c : ℕ) → None ≡ option_map (component_of l.number (c + 1)) (slice_get rules c) → c < length rules → ⊥
+  component_missing c h k = at (slice_get rules c) refl h
+    where
+      at : (o : Option Component) → slice_get rules c ≡ o → None ≡ option_map (component_of l.number (c + 1)) o → ⊥
+      at None e x = nth_some rules c k e
+      at (Some r) e x = none-some (component_of l.number (c + 1) r) x
 
 -- Behind the layout's components
 
-pub beyond_is : (p : Parts) (b : Bool) (d : DecimalMark) (e k : ℕ) → beyond_at p.inside (spot e k) ≡ components_fault b d e k [] (current p)
-beyond_is p b d e k = at p.inside refl (current p) refl
-  where
-    at : (i : Bool) → p.inside ≡ i → (xs : List (List ℕ)) → current p ≡ xs → beyond_at i (spot e k) ≡ components_fault b d e k [] xs
-    at true x [] y = absurd (inside-some p x y)
-    at true x (c ∷ cs) y = refl
-    at false x [] y = refl
-    at false x (c ∷ cs) y =
-        let z : current p ≡ [] = cond-false p.inside (first (texts_of p.marks p.rest.now)) [] x in
-        let w : ◌≡◌ {A = ℕ} 0 1 = cc in
-        absurd (omega arith)
+beyond_is : (b : Bool) (d : DecimalMark) (e k : ℕ) (xs : List (List ℕ)) → beyond_at (has_more xs) (spot e k) ≡ components_fault b d e k [] xs
+beyond_is b d e k [] = refl
+beyond_is b d e k (x ∷ xs) = refl
 
-part_is : (d : DecimalMark) (e : ℕ) (rs : List Component) (xs : List (List ℕ)) (all-filled : Option ℕ) (f s : Option SegmentFault) → or_else f s ≡ components_fault true d e 1 rs xs → s ≡ components_fault false d e 1 rs xs → part_fault all-filled f s ≡ components_fault (is_some all-filled) d e 1 rs xs
-part_is d e rs xs None f s a b = b
-part_is d e rs xs (Some k) None s a b = a
-part_is d e rs xs (Some k) (Some g) s a b = a
+-- where nothing is filled, the components of the layout don't count
+part_is : (d : DecimalMark) (e : ℕ) (rs : List Component) (xs : List (List ℕ)) (filled : Option ℕ) (f s : Option SegmentFault) → or_else f s ≡ components_fault true d e 1 rs xs → s ≡ components_fault false d e 1 rs xs → part_fault filled f s ≡ components_fault (is_some filled) d e 1 rs xs
+part_is d e rs xs None f s i o = o
+part_is d e rs xs (Some k) None s i o = i
+part_is d e rs xs (Some k) (Some g) s i o = i
 
--- the fault of an element, from what the pass over it found
-pub element_is : (d : DecimalMark) (e : ℕ) (rs : List Component) (xs : List (List ℕ)) (c : ℕ) (filled all-filled : Option ℕ) (f : Option SegmentFault) (p : Parts) (status : Option Status) (whole part s r : Option SegmentFault) →
-    Passing d e rs xs c filled f (current p) → drop c rs ≡ [] → all-filled ≡ or_first filled (first_filled (c + 1) (current p)) →
-    s ≡ beyond_at p.inside (spot e (c + 1)) → whole ≡ whole_fault status e all-filled → part ≡ part_fault all-filled f s → r ≡ or_else whole part → r ≡ element_by status rs d e xs
-element_is d e rs xs c filled all-filled f p status whole part s r k none_left ea es ew ep er =
-    let fills : all-filled ≡ first_filled 1 xs = ea ∙ k.fills in
-    let inner : or_else f s ≡ components_fault true d e 1 rs xs = ap (or_else f) (es ∙ beyond_is p true d e (c + 1)) ∙ ap (λ (x : List Component). or_else f (components_fault true d e (c + 1) x (current p))) (sym none_left) ∙ k.inner in
-    let surplus : s ≡ components_fault false d e 1 rs xs = es ∙ beyond_is p false d e (c + 1) ∙ ap (λ (x : List Component). components_fault false d e (c + 1) x (current p)) (sym none_left) ∙ k.surplus in
-    er ∙ ap (λ (x : Option SegmentFault). or_else x part) (ew ∙ ap (whole_fault status e) fills)
-    ∙ ap (or_else (whole_fault status e (first_filled 1 xs))) (ep ∙ part_is d e rs xs all-filled f s inner surplus ∙ ap (λ (x : Option ℕ). components_fault (is_some x) d e 1 rs xs) fills)
-
--- The rest of an element's components
-
-others_less : (xs : List (List ℕ)) → (xs ≡ [] → ⊥) → length (others xs) < length xs
-others_less [] h = absurd (h refl)
-others_less (x ∷ xs) h = omega arith
-
-pub rest_less : (p q : Parts) → p.inside ≡ true → current q ≡ others (current p) → length (current q) < length (current p)
-rest_less p q i e = omega (arith, ap length e, others_less (current p) (inside-some p i))
-
-pub rest_more : (d : DecimalMark) (f g : Option ℕ) (k : ℕ) (xs ys : List (List ℕ)) (m : Measure) (all-filled : Option ℕ) → or_first f (first_filled k xs) ≡ all-filled → m ≡ measure_of d (first xs) → ys ≡ others xs → g ≡ filled_by f k m → or_first g (first_filled (k + 1) ys) ≡ all-filled
-rest_more d f g k xs ys m all-filled h em ey eg =
-    ap (λ (x : Option ℕ). or_first x (first_filled (k + 1) ys)) (eg ∙ ap (filled_by f k) em)
-    ∙ ap (λ (x : List (List ℕ)). or_first (filled_by f k (measure_of d (first xs))) (first_filled (k + 1) x)) ey
-    ∙ fills-step d f k xs ∙ h
-
--- The elements
-
-module _ (ls : List Layout) (regular : all layout_rule ls ≡ true) (row : ℕ) where
-  abbrev layout : Layout
-  layout = layout_of (slice_get ls row)
-
-  element_in_layout : (o : Option Layout) (e : ℕ) → element_in o e ≡ slice_get (layout_of o) e
-  element_in_layout None e = refl
-  element_in_layout (Some l) e = refl
-
-  -- the element that a book tells
-  pub element-told : (e : ℕ) (rule : ElementRule) → Some rule ≡ option_map element_head (element_at ls row e) → (el : Element) × (slice_get (layout_of (slice_get ls row)) e ≡ Some el) × (rule ≡ element_head el) × (rules_at ls row e ≡ el.components) × (e < 40)
-  element-told e rule h = at (element_at ls row e) refl h
-    where
-      at : (o : Option Element) → element_at ls row e ≡ o → Some rule ≡ option_map element_head o → (el : Element) × (slice_get (layout_of (slice_get ls row)) e ≡ Some el) × (rule ≡ element_head el) × (rules_at ls row e ≡ el.components) × (e < 40)
-      at None k x = let z : ◌≡◌ {A = ℕ} 0 1 = cc in absurd (omega arith)
-      at (Some el) k x = (el, sym (element_in_layout (slice_get ls row) e) ∙ k, cc, ap rules_of k, (element_rule_lem ls regular row e el k).0)
-
-  pub no-element-told : (e : ℕ) → None ≡ option_map element_head (element_at ls row e) → drop e (layout_of (slice_get ls row)) ≡ []
-  no-element-told e h = at (element_at ls row e) refl h
-    where
-      at : (o : Option Element) → element_at ls row e ≡ o → None ≡ option_map element_head o → drop e (layout_of (slice_get ls row)) ≡ []
-      at None k x = nth_end (layout_of (slice_get ls row)) e (sym (element_in_layout (slice_get ls row) e) ∙ k)
-      at (Some el) k x = let z : ◌≡◌ {A = ℕ} 0 1 = cc in absurd (omega arith)
-
-  pub element-few : (e : ℕ) (rule : ElementRule) → Some rule ≡ option_map element_head (element_at ls row e) → e < 40
-  element-few e rule h = (element-told e rule h).4
-
-  pub element-within : (e : ℕ) (rule : ElementRule) → Some rule ≡ option_map element_head (element_at ls row e) → e < length (layout_of (slice_get ls row))
-  element-within e rule h = let t = element-told e rule h in nth_within (layout_of (slice_get ls row)) e t.0 t.1
-
-  module _ (d : DecimalMark) (e : ℕ) (xs : List (List (List ℕ))) (total : Option SegmentFault) (rule : ElementRule) (f : Option SegmentFault)
-      (so_far : elements_fault d (e + 1) (drop e (layout_of (slice_get ls row))) xs ≡ total) (told : Some rule ≡ option_map element_head (element_at ls row e)) (found : f ≡ element_by (status_of rule.status) (rules_at ls row e) d (e + 1) (first xs)) where
-    one_more : or_else f (elements_fault d (e + 1 + 1) (drop (e + 1) (layout_of (slice_get ls row))) (others xs)) ≡ total
-    one_more =
-        let (el, k, head, rules, few) = element-told e rule told in
-        let here : drop e (layout_of (slice_get ls row)) ≡ el ∷ drop (e + 1) (layout_of (slice_get ls row)) = rw add-one (nth_drop (layout_of (slice_get ls row)) e el k) in
-        let fault-here : f ≡ element_fault el d (e + 1) (first xs) =
-        found ∙ ap (λ (x : ElementRule). element_by (status_of x.status) (rules_at ls row e) d (e + 1) (first xs)) head
-        ∙ ap (λ (x : List Component). element_by (status_of el.status) x d (e + 1) (first xs)) rules in
-        ap (λ (x : Option SegmentFault). or_else x (elements_fault d (e + 1 + 1) (drop (e + 1) (layout_of (slice_get ls row))) (others xs))) fault-here
-        ∙ ap (λ (x : Layout). elements_fault d (e + 1) x xs) (sym here) ∙ so_far
-
-    or_else-some : (a b : Option SegmentFault) → is_some a ≡ true → a ≡ or_else a b
-    or_else-some None b h = let z : ◌≡◌ {A = ℕ} 0 1 = cc in absurd (omega arith)
-    or_else-some (Some g) b h = refl
-
-    or_else-none : (a b : Option SegmentFault) → is_some a ≡ false → b ≡ or_else a b
-    or_else-none None b h = refl
-    or_else-none (Some g) b h = let z : ◌≡◌ {A = ℕ} 0 1 = cc in absurd (omega arith)
-
-    pub element_faulty : is_some f ≡ true → f ≡ total
-    element_faulty h = or_else-some f (elements_fault d (e + 1 + 1) (drop (e + 1) (layout_of (slice_get ls row))) (others xs)) h ∙ one_more
-
-    pub element-fits : is_some f ≡ false → elements_fault d (e + 1 + 1) (drop (e + 1) (layout_of (slice_get ls row))) (others xs) ≡ total
-    element-fits h = or_else-none f (elements_fault d (e + 1 + 1) (drop (e + 1) (layout_of (slice_get ls row))) (others xs)) h ∙ one_more
-
-  -- behind the layout's elements
-  pub elements-end : (d : DecimalMark) (e : ℕ) (xs : List (List (List ℕ))) (total : Option SegmentFault) (p : Parts) (f : Option SegmentFault) → elements_fault d (e + 1) (drop e (layout_of (slice_get ls row))) xs ≡ total → None ≡ option_map element_head (element_at ls row e) →
-      (first xs ≡ [] → xs ≡ []) → current p ≡ first xs → f ≡ beyond_at p.inside (spot (e + 1) 1) → f ≡ total
-  elements-end d e xs total p f so_far told some here ef =
-      ef ∙ beyond_is p true d (e + 1) 1 ∙ ap (components_fault true d (e + 1) 1 []) here ∙ at xs some ∙ ap (λ (x : Layout). elements_fault d (e + 1) x xs) (sym (no-element-told e told)) ∙ so_far
-    where
-      at : (ys : List (List (List ℕ))) → (first ys ≡ [] → ys ≡ []) → components_fault true d (e + 1) 1 [] (first ys) ≡ elements_fault d (e + 1) [] ys
-      at [] h = refl
-      at ([] ∷ ys) h = let z : [] ∷ ys ≡ [] = h refl in let w : ◌≡◌ {A = ℕ} 0 1 = cc in absurd (omega arith)
-      at ((c ∷ cs) ∷ ys) h = refl
+-- the element, from the pass over its components
+pub element_is : (l : ElementAt) (old passed : Texts) (t : Tally) (n : ℕ) (rest all-filled : Option ℕ) (more : Bool) (at : Spot) (whole s f : Option SegmentFault) → Passing l old (length l.element.components) t passed → n ≡ length l.element.components →
+    rest ≡ first_filled (n + 1) passed.current → all-filled ≡ option_or t.filled rest → more ≡ has_more passed.current → at ≡ spot l.number (n + 1) → s ≡ beyond_at more at →
+    whole ≡ whole_fault (status_of l.element.status) l.number all-filled → f ≡ or_else whole (part_fault all-filled t.fault s) → f ≡ element_fault l.element old.decimal l.number old.current
+element_is l old passed t n rest all-filled more at whole s f p en er ea em eat es ew ef =
+    let d : DecimalMark = old.decimal in
+    let e : ℕ = l.number in
+    let k : ℕ = length l.element.components in
+    let none-left : drop k l.element.components ≡ [] = drop_all k l.element.components (omega arith) in
+    let fills : all-filled ≡ first_filled 1 old.current = ea ∙ ap (option_or t.filled) (er ∙ ap (λ (i : ℕ). first_filled (i + 1) passed.current) en) ∙ p.fills in
+    let s-is : s ≡ beyond_at (has_more passed.current) (spot e (k + 1)) = es ∙ ap (λ (b : Bool). beyond_at b at) em ∙ ap (beyond_at (has_more passed.current)) (eat ∙ ap (λ (i : ℕ). spot e (i + 1)) en) in
+    let inner : or_else t.fault s ≡ components_fault true d e 1 l.element.components old.current =
+    ap (or_else t.fault) (s-is ∙ beyond_is true d e (k + 1) passed.current) ∙ ap (λ (x : List Component). or_else t.fault (components_fault true d e (k + 1) x passed.current)) (sym none-left) ∙ p.inner in
+    let surplus : s ≡ components_fault false d e 1 l.element.components old.current =
+    s-is ∙ beyond_is false d e (k + 1) passed.current ∙ ap (λ (x : List Component). components_fault false d e (k + 1) x passed.current) (sym none-left) ∙ p.surplus in
+    ef ∙ ap (λ (x : Option SegmentFault). or_else x (part_fault all-filled t.fault s)) (ew ∙ ap (whole_fault (status_of l.element.status) e) fills)
+    ∙ ap (or_else (whole_fault (status_of l.element.status) e (first_filled 1 old.current))) (part_is d e l.element.components old.current all-filled t.fault s inner surplus ∙ ap (λ (x : Option ℕ). components_fault (is_some x) d e 1 l.element.components old.current) fills)
 
 -- One element more: the cursor p before it, q inside it, and s behind it
-module _ (ls : List Layout) (regular : all layout_rule ls ≡ true) (row : ℕ) (d : DecimalMark) (e : ℕ) (total : Option SegmentFault) (p q : Parts)
-    (so_far : elements_fault d (e + 1) (drop e (layout_of (slice_get ls row))) (later p) ≡ total) (closed : current p ≡ []) (mark : p.decimal ≡ d)
-    (entered : current p ≡ [] → current q ≡ first (later p)) (left : current p ≡ [] → later q ≡ others (later p)) (kept : q.decimal ≡ p.decimal) where
-  module _ (rule : ElementRule) (f : Option SegmentFault) (told : Some rule ≡ option_map element_head (element_at ls row e)) (found : f ≡ element_by (status_of rule.status) (rules_at ls row e) q.decimal (e + 1) (current q)) where
-    found_here : f ≡ element_by (status_of rule.status) (rules_at ls row e) d (e + 1) (first (later p))
-    found_here = found ∙ ap (λ (x : DecimalMark). element_by (status_of rule.status) (rules_at ls row e) x (e + 1) (current q)) (kept ∙ mark) ∙ ap (element_by (status_of rule.status) (rules_at ls row e) d (e + 1)) (entered closed)
 
-    pub turn_faulty : (b : Bool) → b ≡ is_some f → b ≡ true → f ≡ total
-    turn_faulty b x y = element_faulty ls regular row d e (later p) total rule f so_far told found_here (sym x ∙ y)
+module _ (l : Layout) (n : ℕ) (p q : Texts) (total : Option SegmentFault)
+    (so_far : elements_fault p.decimal (n + 1) (drop n l) p.later ≡ total) (closed : p.current ≡ []) (entered : p.current ≡ [] → q ≡ record p { current = first p.later; later = others p.later }) where
+  element_here : (k : ElementAt) → Some k ≡ option_map (element_of (n + 1)) (slice_get l n) → (r : Element) × (drop n l ≡ r ∷ drop (n + 1) l) × (k ≡ element_of (n + 1) r)
+  element_here k told = at (slice_get l n) refl told
+    where
+      at : (o : Option Element) → slice_get l n ≡ o → Some k ≡ option_map (element_of (n + 1)) o → (r : Element) × (drop n l ≡ r ∷ drop (n + 1) l) × (k ≡ element_of (n + 1) r)
+      at None e h = absurd (none-some k (sym h))
+      at (Some r) e h = (r, rw add-one (nth_drop l n r e), cc)
 
-    pub turn_fits : (b : Bool) (s : Parts) → b ≡ is_some f → b ≡ false → current s ≡ [] → later s ≡ later q → s.decimal ≡ q.decimal →
-        (elements_fault d (e + 1 + 1) (drop (e + 1) (layout_of (slice_get ls row))) (later s) ≡ total) × (current s ≡ []) × (s.decimal ≡ d) × (e + 1 ≤ 40)
-    turn_fits b s x y cs ls' ds = (
-      ap (elements_fault d (e + 1 + 1) (drop (e + 1) (layout_of (slice_get ls row)))) (ls' ∙ left closed) ∙ element-fits ls regular row d e (later p) total rule f so_far told found_here (sym x ∙ y),
-      cs,
-      ds ∙ kept ∙ mark,
-      omega (arith, element-few ls regular row e rule told),
-    )
+  pub turn_within : (k : ElementAt) → Some k ≡ option_map (element_of (n + 1)) (slice_get l n) → n < length l
+  turn_within k told = at (slice_get l n) refl told
+    where
+      at : (o : Option Element) → slice_get l n ≡ o → Some k ≡ option_map (element_of (n + 1)) o → n < length l
+      at None e h = absurd (none-some k (sym h))
+      at (Some r) e h = slice_get_within l n r e
 
-  pub turn_last : (f : Option SegmentFault) (b : Bool) → None ≡ option_map element_head (element_at ls row e) → f ≡ beyond_at b (spot (e + 1) 1) → b ≡ q.inside → f ≡ total
-  turn_last f b told ef eb = elements-end ls regular row d e (later p) total q f so_far told (later-some p) (entered closed) (ef ∙ ap (λ (t : Bool). beyond_at t (spot (e + 1) 1)) eb)
+  module _ (k : ElementAt) (told : Some k ≡ option_map (element_of (n + 1)) (slice_get l n)) (f : Option SegmentFault) (found : f ≡ element_fault k.element q.decimal k.number q.current) where
+    one_more : or_else f (elements_fault p.decimal (n + 1 + 1) (drop (n + 1) l) (others p.later)) ≡ total
+    one_more =
+        let (r, here, ek) = element_here k told in
+        let fault-here : f ≡ element_fault r p.decimal (n + 1) (first p.later) =
+        found ∙ ap (λ (x : Texts). element_fault k.element x.decimal k.number x.current) (entered closed) ∙ ap (λ (x : ElementAt). element_fault x.element p.decimal x.number (first p.later)) ek in
+        ap (λ (x : Option SegmentFault). or_else x (elements_fault p.decimal (n + 1 + 1) (drop (n + 1) l) (others p.later))) fault-here
+        ∙ ap (λ (x : Layout). elements_fault p.decimal (n + 1) x p.later) (sym here) ∙ so_far
 
--- a segment's elements from its bytes: the cursor p behind the tag
-pub layout_is : (l : Layout) (d : DecimalMark) (m m' : Marks) (bs bs' : List ℕ) (p : Parts) (f : Option SegmentFault) → m' ≡ m → bs' ≡ bs → later p ≡ others (texts_of m' bs') → p.decimal ≡ d → f ≡ elements_fault p.decimal 1 l (later p) →
-    f ≡ layout_fault l d (map (map (characters m.release false)) (behind_tag (parts_of m bs)))
-layout_is l d m m' bs bs' p f em eb el ed ef =
-    ef ∙ ap (λ (x : DecimalMark). elements_fault x 1 l (later p)) ed
-    ∙ ap (elements_fault d 1 l) (el ∙ ap (λ (x : Marks). others (texts_of x bs')) em ∙ ap (λ (x : List ℕ). others (texts_of m x)) eb ∙ behind-tag m bs)
+    pub turn_faulty : (g : SegmentFault) → f ≡ Some g → Some g ≡ total
+    turn_faulty g e = sym (ap (λ (x : Option SegmentFault). or_else x (elements_fault p.decimal (n + 1 + 1) (drop (n + 1) l) (others p.later))) e) ∙ one_more
+
+    pub turn_fits : (s : Texts) → f ≡ None → s ≡ record q { current = [] } → elements_fault s.decimal (n + 1 + 1) (drop (n + 1) l) s.later ≡ total
+    turn_fits s e es =
+        ap (λ (x : Texts). elements_fault x.decimal (n + 1 + 1) (drop (n + 1) l) x.later) (es ∙ ap (λ (x : Texts). record x { current = [] }) (entered closed))
+        ∙ sym (ap (λ (x : Option SegmentFault). or_else x (elements_fault p.decimal (n + 1 + 1) (drop (n + 1) l) (others p.later))) e) ∙ one_more
+
+  -- behind the layout's elements
+  behind_is : (d : DecimalMark) (xs : List (List (List ℕ))) → (first xs ≡ [] → xs ≡ []) → components_fault true d (n + 1) 1 [] (first xs) ≡ elements_fault d (n + 1) [] xs
+  behind_is d [] h = refl
+  behind_is d ([] ∷ xs) h = let z : [] ∷ xs ≡ [] = h refl in let w : ◌≡◌ {A = ℕ} 0 1 = cc in absurd (omega arith)
+  behind_is d ((c ∷ cs) ∷ xs) h = refl
+
+  pub turn_last : (f : Option SegmentFault) (more : Bool) (at : Spot) → None ≡ option_map (element_of (n + 1)) (slice_get l n) → (p.current ≡ [] → q.current ≡ [] → p.later ≡ []) → more ≡ has_more q.current → at ≡ spot (n + 1) 1 → f ≡ beyond_at more at → f ≡ total
+  turn_last f more at told ends em ea ef =
+      let inside : q.current ≡ first p.later = ap (λ (x : Texts). x.current) (entered closed) in
+      let none : drop n l ≡ [] = nth_end l n (slice_none (slice_get l n) told) in
+      ef ∙ ap (λ (b : Bool). beyond_at b at) em ∙ ap (beyond_at (has_more q.current)) ea ∙ beyond_is true p.decimal (n + 1) 1 q.current
+      ∙ ap (components_fault true p.decimal (n + 1) 1 []) inside ∙ behind_is p.decimal p.later (λ h. ends closed (inside ∙ h))
+      ∙ ap (λ (x : Layout). elements_fault p.decimal (n + 1) x p.later) (sym none) ∙ so_far
+    where
+      slice_none : (o : Option Element) → None ≡ option_map (element_of (n + 1)) o → o ≡ None
+      slice_none None h = refl
+      slice_none (Some r) h = absurd (none-some (element_of (n + 1) r) h)
+
+-- a segment's elements from its bytes
+pub elements_of_segment : (m m' : Marks) (bs bs' : List ℕ) (xs : List (List (List ℕ))) → m' ≡ m → bs' ≡ bs → xs ≡ others (texts_of m' bs') → xs ≡ map (map (characters m.release false)) (behind_tag (parts_of m bs))
+elements_of_segment m m' bs bs' xs em eb ex = ex ∙ ap (λ (x : Marks). others (texts_of x bs')) em ∙ ap (λ (x : List ℕ). others (texts_of m x)) eb ∙ behind-tag m bs

@@ -72,3 +72,5 @@ length_more k p bs i h = at_drop_more (length_to k p) bs i 0 h
 
 pub length_done : (k : Marks) (p : Bool) (bs : List ℕ) (i : ℕ) → length bs ≤ i → stretch k.release k.component k.element p (drop i bs) ≡ 0
 length_done k p bs i h = at_drop_all (length_to k p) bs i h
+
+pub ruleset stretch_steps = (scanned_more, scanned_done, scanned-whole, passed_count, passed-digits, length_more, length_done)

@@ -1,146 +1,94 @@
 // Checks a component by its measure.
 ghost use Rattle.std.specs.Prelude.{◌≡◌, ℕ};
 ghost use Rattle.message.specs.Layouts.{status_of};
-ghost use Rattle.message.specs.Judging.{or_else, whole_fault};
-ghost use Rattle.examiner.specs.Checking.{codes_at, listed_in, value_in, component_in, filled_by, beyond_at, part_fault};
+ghost use Rattle.examiner.specs.Checking.{listed_in, spelled_at, value_in, component_in};
+ghost use Rattle.std.specs.List.{slice_get};
 
 use crate::measure::Measure;
 use message::book::Book;
 use message::layout::{ComponentRule, SegmentFault, Spot, Status, status_of};
+use std::marker::Model;
 
-// The number of the first filled component, where the next is component `number`.
-pub fn first_filled(filled: Option<usize>, number: usize, measure: &Measure) -> Option<usize>
-    ensures { result ≡ filled_by filled number measure.now }
-{
-    match filled {
-        Some(_) => filled,
-        None => {
-            if measure.count == 0 {
-                None
-            } else {
-                Some(number)
-            }
-        }
-    }
-}
-
-// The first of two faults.
-pub fn first_fault(one: Option<SegmentFault>, other: Option<SegmentFault>) -> Option<SegmentFault>
-    ensures { result ≡ or_else one other }
-{
-    match one {
-        Some(_) => one,
-        None => other,
-    }
-}
-
-// The element as a whole: required with nothing filled, or unused with something filled.
-pub fn whole_fault(status: char, element: usize, filled: Option<usize>) -> Option<SegmentFault>
-    ensures { result ≡ whole_fault (status_of status) element filled }
-{
-    match (status_of(status), filled) {
-        (Some(Status::Required), None) => Some(SegmentFault::Missing(Spot {
-            element,
-            component: 1,
-        })),
-        (Some(Status::Unused), Some(component)) => {
-            Some(SegmentFault::Unused(Spot { element, component }))
-        }
-        _ => None,
-    }
-}
-
-// A component beyond the layout is a fault, even when it is empty.
-pub fn beyond_fault(more: bool, at: Spot) -> Option<SegmentFault>
-    ensures { result ≡ beyond_at more at }
-{
-    if more {
-        Some(SegmentFault::Beyond(at))
-    } else {
-        None
-    }
-}
-
-// The first fault of an element: of it as a whole, else of its components. Those of the layout count only where something is filled.
-pub fn element_fault_of(
-    whole: Option<SegmentFault>,
-    filled: Option<usize>,
-    inner: Option<SegmentFault>,
-    surplus: Option<SegmentFault>,
-) -> Option<SegmentFault>
-    ensures { result ≡ or_else whole (part_fault filled inner surplus) }
-{
-    match (whole, filled, inner) {
-        (Some(_), _, _) => whole,
-        (None, Some(_), Some(_)) => inner,
-        _ => surplus,
-    }
-}
-
-// The layout of a row.
-#[derive(Clone, Copy, Drop)]
-pub struct RowLayout<'b, B> {
+// A component of a row's layout, its element and itself from 0 in the book: contracts see its rule with its codes, and where it stands.
+#[derive(Drop)]
+pub struct ComponentLayout<'b, B: Book> {
     pub book: &'b B,
     pub row: usize,
+    pub element: usize,
+    pub component: usize,
+    pub rule: ComponentRule,
 }
 
-impl<'b, B: Book> RowLayout<'b, B> {
-    // Whether the characters are one of the component's codes, or it has none.
-    fn is_listed(&self, element: usize, component: usize, measure: &Measure) -> bool
-        ensures { result ≡ listed_in (codes_at (B.Book.layouts self.now.book.now) self.now.row element component) measure.now }
+impl<'b, B: Book> Model for ComponentLayout<'b, B> {
+    ghost use Rattle.std.specs.Prelude.{◌≡◌, ◌+◌, ◌<◌, Some};
+    ghost use Rattle.std.specs.Option.{option_map};
+    ghost use Rattle.message.specs.Layouts.{component_head, component_at};
+    ghost use Rattle.message.specs.Judging.{spot};
+    ghost use Rattle.examiner.specs.Checking.{ComponentAt, ruled, codes_at};
+
+    ghost Value = { ComponentAt };
+
+    ghost view = { λ l. record { spot = spot (l.element + 1) (l.component + 1); component = ruled l.rule (codes_at (B.Book.layouts l.book.now) l.row l.element l.component) } };
+
+    ghost invariant = { λ l. (Some l.rule ≡ option_map component_head (component_at (B.Book.layouts l.book.now) l.row l.element l.component)) × (l.element < 40) × (l.component < 40) };
+}
+
+impl<'b, B: Book> ComponentLayout<'b, B> {
+    // Where it stands.
+    pub fn spot(&self) -> Spot
+        ensures { result ≡ self.now.spot }
     {
-        let mut k = 0;
-        while let Some(code) = self.book.code(self.row, element, component, k) {
-            if measure.spells(code) {
-                return true;
-            }
-            k += 1;
+        Spot {
+            element: self.element + 1,
+            component: self.component + 1,
         }
-        k == 0
     }
 
-    // A filled component: class, length, code.
-    fn value_fault(
-        &self,
-        element: usize,
-        component: usize,
-        rule: ComponentRule,
-        at: Spot,
-        measure: &Measure,
-    ) -> Option<SegmentFault>
-        ensures { result ≡ value_in rule.class rule.extent (codes_at (B.Book.layouts self.now.book.now) self.now.row element component) at measure.now }
+    // Whether the characters are its code with that number.
+    fn has_code(&self, number: usize, measure: &Measure) -> bool
+        ensures { result ≡ spelled_at (slice_get self.now.component.codes number) measure.now }
     {
-        if !measure.has_class(rule.class) {
-            return Some(SegmentFault::WrongClass(at));
+        match self
+            .book
+            .code(self.row, self.element, self.component, number)
+        {
+            Some(code) => measure.spells(code),
+            None => false,
         }
-        if !measure.has_extent(rule.class, rule.extent) {
-            return Some(SegmentFault::WrongLength(at));
+    }
+
+    // Whether the characters are one of its codes, or it has none.
+    fn is_listed(&self, measure: &Measure) -> bool
+        ensures { result ≡ listed_in self.now.component.codes measure.now }
+    {
+        self.rule.codes == 0 || (0..self.rule.codes).any(|number| self.has_code(number, measure))
+    }
+
+    // Filled: class, length, code.
+    fn value_fault(&self, measure: &Measure) -> Option<SegmentFault>
+        ensures { result ≡ value_in self.now measure.now }
+    {
+        if !measure.has_class(self.rule.class) {
+            return Some(SegmentFault::WrongClass(self.spot()));
         }
-        if !self.is_listed(element, component, measure) {
-            return Some(SegmentFault::NotListed(at));
+        if !measure.has_extent(self.rule.class, self.rule.extent) {
+            return Some(SegmentFault::WrongLength(self.spot()));
+        }
+        if !self.is_listed(measure) {
+            return Some(SegmentFault::NotListed(self.spot()));
         }
         None
     }
 
-    // A component of an element that has something filled.
-    pub fn component_fault(
-        &self,
-        element: usize,
-        component: usize,
-        rule: ComponentRule,
-        at: Spot,
-        measure: &Measure,
-    ) -> Option<SegmentFault>
-        ensures { result ≡ component_in (status_of rule.status) rule.class rule.extent (codes_at (B.Book.layouts self.now.book.now) self.now.row element component) at measure.now }
+    // In an element that has something filled.
+    pub fn fault(&self, measure: &Measure) -> Option<SegmentFault>
+        ensures { result ≡ component_in self.now measure.now }
     {
-        let status = status_of(rule.status)?;
-        match (status, measure.count == 0) {
-            (Status::Required, true) => Some(SegmentFault::Missing(at)),
-            (Status::Unused, false) => Some(SegmentFault::Unused(at)),
+        match (status_of(self.rule.status)?, measure.count == 0) {
+            (Status::Required, true) => Some(SegmentFault::Missing(self.spot())),
+            (Status::Unused, false) => Some(SegmentFault::Unused(self.spot())),
             (Status::Unused | Status::Optional, true) => None,
-            (Status::Required | Status::Optional, false) => {
-                self.value_fault(element, component, rule, at, measure)
-            }
+            (Status::Required | Status::Optional, false) => self.value_fault(measure),
         }
     }
 }

@@ -1,14 +1,14 @@
 // What one pass over a component's bytes finds of its characters.
 ghost use Rattle.std.specs.Prelude.{◌≡◌, ◌+◌, ◌-◌, ◌*◌, ◌^◌, ◌<◌, ◌≤◌, false, length as size, take};
-ghost use Rattle.std.specs.Str.{bytes_eq};
-ghost use Rattle.syntax.specs.Bytes.{digit};
 ghost use Rattle.syntax.specs.Split.{characters};
 ghost use Rattle.message.specs.Layouts.{letter_or_space, within};
 ghost use Rattle.message.specs.Judging.{value_of};
-ghost use Rattle.examiner.specs.Measuring.{advanced, complete, kept, nothing, grown, measure_of, start, ends, passed, stretch, class_in, size_in, spelled_in, reference_in, count_in};
+ghost use Rattle.examiner.specs.Measuring.{advanced, complete, nothing, grown, measure_of, start, ends, passed, stretch, class_in, size_in, spelled_in, reference_in, count_in};
 
+use crate::parts::Reading;
+use arrayvec::ArrayVec;
 use message::layout::{Class, Extent};
-use syntax::bytes::{is_mark, is_release};
+use syntax::bytes::is_release;
 use syntax::marks::{DecimalMark, Marks};
 
 // How far characters have come as a number.
@@ -22,67 +22,47 @@ pub enum Numeral {
     Wrong,
 }
 
-// What is known of the characters: how many they are and how many of them are digits, whether all are letters or spaces, how far they are a number, and the first 17 of them, with zeros behind.
-#[derive(Clone, Copy, Drop)]
+// What is known of the characters: how many they are, those past the 17th too, and how many of them are digits, whether all are letters or spaces, how far they are a number, and the first 17 of them.
+#[derive(Drop)]
 pub struct Measure {
     pub count: usize,
     pub digits: usize,
+    // a flag: no other value stands beside it
     pub alphabetic: bool,
     pub numeral: Numeral,
-    pub letters: [u8; 17],
+    pub letters: ArrayVec<u8, 17>,
 }
 
 // What the first component of some bytes is: the measure of its characters, and how many bytes it has.
-#[derive(Clone, Copy, Drop)]
+#[derive(Drop)]
 pub struct Stretch {
     pub measure: Measure,
     pub length: usize,
-}
-
-// Whether `c` is a digit.
-fn is_digit(c: u8) -> bool
-    ensures { result ≡ digit c }
-{
-    b'0' <= c && c <= b'9'
 }
 
 // Whether `c` is a letter or a space.
 fn is_letter_or_space(c: u8) -> bool
     ensures { result ≡ letter_or_space c }
 {
-    (b'A' <= c && c <= b'Z') || (b'a' <= c && c <= b'z') || c == b' '
-}
-
-// Keeps `c` among the first letters, as the one behind `count` others.
-fn keep(letters: &mut [u8; 17], count: usize, c: u8)
-    ensures { letters.new ≡ kept letters.old count c }
-{
-    if count < 17 {
-        letters[count] = c;
-    }
-}
-
-// Whether two words have the same bytes.
-fn same_bytes(one: &[u8], other: &[u8]) -> bool
-    ensures { result ≡ bytes_eq one.now other.now }
-{
-    one == other
+    c.is_ascii_alphabetic() || c == b' '
 }
 
 // The value `n` with the digit `c` behind.
 fn with_digit(n: usize, c: u8) -> usize
-    requires { n < 2 ^ 32 }
+    requires { n < 2 ^ 60 }
     ensures { result ≡ n * 10 + (c - 48) }
 {
     n * 10 + usize::from(c.saturating_sub(b'0'))
 }
 
-// The value of at most 6 digits.
+// The value of at most 17 digits.
+#[tactic(auto, using(crate::proofs::Values::value_steps))]
 fn value(digits: &[u8]) -> usize
-    requires { size digits.now ≤ 6 }
+    requires { size digits.now ≤ 17 }
     ensures { result ≡ value_of 0 digits.now }
 {
     let mut n = 0;
+    // no fold: its closure would be asked to hold the sum small by itself
     for c in digits {
         n = with_digit(n, *c);
     }
@@ -96,10 +76,10 @@ impl Numeral {
     {
         match self {
             Numeral::Nothing if c == b'-' => Numeral::Minus,
-            Numeral::Nothing | Numeral::Minus if is_digit(c) => Numeral::Whole,
-            Numeral::Whole if is_digit(c) => Numeral::Whole,
-            Numeral::Whole if c == decimal.byte() => Numeral::Mark,
-            Numeral::Mark | Numeral::Fraction if is_digit(c) => Numeral::Fraction,
+            Numeral::Nothing | Numeral::Minus if c.is_ascii_digit() => Numeral::Whole,
+            Numeral::Whole if c.is_ascii_digit() => Numeral::Whole,
+            Numeral::Whole if c == u8::from(decimal) => Numeral::Mark,
+            Numeral::Mark | Numeral::Fraction if c.is_ascii_digit() => Numeral::Fraction,
             _ => Numeral::Wrong,
         }
     }
@@ -125,7 +105,7 @@ impl Measure {
             digits: 0,
             alphabetic: true,
             numeral: Numeral::Nothing,
-            letters: [0; 17],
+            letters: ArrayVec::new(),
         }
     }
 
@@ -134,9 +114,10 @@ impl Measure {
         requires { (self.old.count + 1 < 2 ^ 64) × (self.old.digits + 1 < 2 ^ 64) }
         ensures { self.new ≡ grown decimal self.old c }
     {
-        keep(&mut self.letters, self.count, c);
+        // only the first 17 are kept
+        let _ = self.letters.try_push(c);
         self.count += 1;
-        self.digits += usize::from(is_digit(c));
+        self.digits += usize::from(c.is_ascii_digit());
         self.alphabetic &= is_letter_or_space(c);
         self.numeral = self.numeral.advance(c, decimal);
     }
@@ -177,9 +158,7 @@ impl Measure {
     pub fn spells(&self, word: &[u8]) -> bool
         ensures { result ≡ spelled_in word.now self.now }
     {
-        word.len() <= 17
-            && word.len() == self.count
-            && same_bytes(word, &self.letters[0..word.len()])
+        word.len() == self.count && word == self.letters.as_slice()
     }
 
     // Whether the characters can be a reference: 1 to 14 of them.
@@ -196,14 +175,15 @@ impl Measure {
         1 <= self.count
             && self.count <= 6
             && self.digits == self.count
-            && value(&self.letters[0..self.count]) == n
+            && value(self.letters.as_slice()) == n
     }
 }
 
 // A component whose bytes are being read: the measure of the characters so far, and whether a release mark protects the next byte.
-#[derive(Clone, Copy, Drop)]
+#[derive(Drop)]
 struct Scan {
     measure: Measure,
+    // a flag: no other value stands beside it
     protected: bool,
 }
 
@@ -222,40 +202,40 @@ impl Scan {
     fn ends_at(&self, b: u8, marks: Marks) -> bool
         ensures { result ≡ ends marks.release marks.component marks.element self.now.protected b }
     {
-        is_mark(b, marks.release, marks.component, self.protected)
-            || is_mark(b, marks.release, marks.element, self.protected)
+        marks.components().divides(b, self.protected) || marks.elements().divides(b, self.protected)
     }
 
     // Reads `b`: a release mark is no character.
-    fn pass(&mut self, b: u8, release: u8, decimal: DecimalMark)
+    fn pass(&mut self, b: u8, reading: Reading)
         requires { (self.old.measure.count + 1 < 2 ^ 64) × (self.old.measure.digits + 1 < 2 ^ 64) }
-        ensures { self.new ≡ passed decimal release self.old b }
+        ensures { self.new ≡ passed reading.decimal reading.marks.release self.old b }
     {
-        self.protected = is_release(b, release, self.protected);
+        self.protected = is_release(b, reading.marks.release, self.protected);
         if !self.protected {
-            self.measure.grow(b, decimal);
+            self.measure.grow(b, reading.decimal);
         }
     }
 }
 
 // The first component of `bytes`: up to the first unprotected component or element mark, or the end.
-pub fn first_component(bytes: &[u8], marks: Marks, decimal: DecimalMark) -> Stretch
-    ensures length { result.length ≡ stretch marks.release marks.component marks.element false bytes.now }
+#[tactic(auto, using(crate::proofs::Stretches::stretch_steps))]
+pub fn first_component(bytes: &[u8], reading: Reading) -> Stretch
+    ensures length { result.length ≡ stretch reading.marks.release reading.marks.component reading.marks.element false bytes.now }
     ensures within { result.length ≤ size bytes.now }
-    ensures measure { result.measure ≡ measure_of decimal (characters marks.release false (take result.length bytes.now)) }
+    ensures measure { result.measure ≡ measure_of reading.decimal (characters reading.marks.release false (take result.length bytes.now)) }
 {
     let mut scan = Scan::at_start();
-    let mut i = 0;
-    while i < bytes.len() {
-        let b = bytes[i];
-        if scan.ends_at(b, marks) {
-            break;
+    for (i, b) in bytes.iter().enumerate() {
+        if scan.ends_at(*b, reading.marks) {
+            return Stretch {
+                measure: scan.measure,
+                length: i,
+            };
         }
-        scan.pass(b, marks.release, decimal);
-        i += 1;
+        scan.pass(*b, reading);
     }
     Stretch {
         measure: scan.measure,
-        length: i,
+        length: bytes.len(),
     }
 }

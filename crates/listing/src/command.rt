@@ -37,23 +37,18 @@ pub enum Word {
     File,
 }
 
-impl Word {
+impl From<&str> for Word {
+    ghost from_gives = { λ word kind. kind ≡ word_of word.now };
+
     // A lone `-` is a file: the standard input.
-    pub fn of(word: &str) -> Word
-        ensures { result ≡ word_of word.now }
-    {
-        if is_word(word, "--plain") {
-            Word::Plain
-        } else if is_word(word, "--help") {
-            Word::Help
-        } else if is_word(word, "--") {
-            Word::EndOfOptions
-        } else if is_word(word, "-") {
-            Word::File
-        } else if is_dashed(word.as_bytes()) {
-            Word::UnknownOption
-        } else {
-            Word::File
+    fn from(word: &str) -> Word {
+        match word {
+            "--plain" => Word::Plain,
+            "--help" => Word::Help,
+            "--" => Word::EndOfOptions,
+            "-" => Word::File,
+            _ if word.starts_with('-') => Word::UnknownOption,
+            _ => Word::File,
         }
     }
 }
@@ -68,36 +63,18 @@ pub enum BookWord {
     Unknown,
 }
 
-impl BookWord {
-    pub fn of(word: &str) -> BookWord
-        ensures { result ≡ book_word_of word.now }
-    {
-        if is_word(word, "--trial") {
-            BookWord::Trial
-        } else if is_word(word, "--layouts") {
-            BookWord::Layouts
-        } else if is_word(word, "--plain") {
-            BookWord::Plain
-        } else if is_word(word, "--help") {
-            BookWord::Help
-        } else {
-            BookWord::Unknown
+impl From<&str> for BookWord {
+    ghost from_gives = { λ word kind. kind ≡ book_word_of word.now };
+
+    fn from(word: &str) -> BookWord {
+        match word {
+            "--trial" => BookWord::Trial,
+            "--layouts" => BookWord::Layouts,
+            "--plain" => BookWord::Plain,
+            "--help" => BookWord::Help,
+            _ => BookWord::Unknown,
         }
     }
-}
-
-// Whether two words are the same.
-fn is_word(word: &str, other: &str) -> bool
-    ensures { result ≡ bytes_eq word.now other.now }
-{
-    word == other
-}
-
-// Whether a word begins with a minus.
-fn is_dashed(word: &[u8]) -> bool
-    ensures { result ≡ (nat_lt 0 (length word.now) && slice_index word.now 0 == 45) }
-{
-    word.len() > 0 && word[0] == b'-'
 }
 
 // What the program is asked for.
@@ -127,22 +104,21 @@ book: lists the rows of the built-in book RECADV.
 ";
 
 // The request that the words behind `cut` make.
-fn parse_cut(heap: Global, words: IntoIter<String>) -> Result<Request, AllocError> {
+fn parse_cut(heap: Global, mut words: IntoIter<String>) -> Result<Request, AllocError> {
     let mut format = Format::Person;
     let mut files = Vec::new(heap);
-    let mut options = true;
-    for word in words {
-        if !options {
-            files.push(word)?;
-        } else {
-            match Word::of(word.as_str()) {
-                Word::Plain => format = Format::Plain,
-                Word::Help => return Ok(Request::Help),
-                Word::EndOfOptions => options = false,
-                Word::UnknownOption => return Ok(Request::Unknown(word)),
-                Word::File => files.push(word)?,
-            }
+    for word in &mut words {
+        match Word::from(word.as_str()) {
+            Word::Plain => format = Format::Plain,
+            Word::Help => return Ok(Request::Help),
+            Word::EndOfOptions => break,
+            Word::UnknownOption => return Ok(Request::Unknown(word)),
+            Word::File => files.push(word)?,
         }
+    }
+    // What is left behind the end of the options.
+    for word in words {
+        files.push(word)?;
     }
     Ok(Request::Cut(format, files))
 }
@@ -153,7 +129,7 @@ fn parse_book(words: IntoIter<String>) -> Request {
     let mut detail = Detail::Rows;
     let mut format = Format::Person;
     for word in words {
-        match BookWord::of(word.as_str()) {
+        match BookWord::from(word.as_str()) {
             BookWord::Trial => which = Which::Trial,
             BookWord::Layouts => detail = Detail::Layouts,
             BookWord::Plain => format = Format::Plain,

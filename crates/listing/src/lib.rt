@@ -2,5 +2,7 @@
 #![tactic(auto)]
 
 pub mod command;
+pub mod page;
 pub mod person;
 pub mod plain;
+pub mod text;

@@ -1,120 +1,81 @@
-// The listing for a person: a line for each segment, and one for each element with its components' characters.
-ghost use Rattle.std.specs.Prelude.{◌≡◌, IfOk};
-ghost use Rattle.edifact.specs.Cutting.{cut};
+// The form for a person: a line for each segment, and one for each element with its components' characters.
+ghost use Rattle.std.specs.Prelude.{◌≡◌, false, ◌++◌, OnOk, refl};
+ghost use Rattle.syntax.specs.Split.{characters as characters_in};
+ghost use Rattle.edifact.specs.Cursors.{component_part, element_part};
+ghost use Rattle.listing.specs.Person.{element_text, element_line, head_text, end_text, name_text, person_listing};
 
+use crate::page::Page;
+use crate::text::TextForm;
 use edifact::component::Component;
-use edifact::cutter::Cutter;
 use edifact::element::Element;
 use edifact::segment::Segment;
-use std::alloc::{AllocError, Global};
-use syntax::fault::{CutFault, Place};
+use std::alloc::AllocError;
+use syntax::fault::CutFault;
+
+#[derive(Clone, Copy, Drop)]
+pub struct Person;
 
 // The characters of a component.
-fn push_component(out: &mut Vec<u8>, component: &Component<'_>) -> Result<(), AllocError> {
+fn push_component(page: &mut Page, component: &Component<'_>) -> Result<(), AllocError>
+    ensures { OnOk result (page.new ≡ page.old ++ characters_in (component_part component.now).marks.release false (component_part component.now).bytes) }
+{
     for character in component.characters() {
-        out.push(character)?;
+        page.push(character)?;
     }
     Ok(())
 }
 
 // The components of an element, with a bar between them.
-fn push_element(out: &mut Vec<u8>, element: &Element<'_>) -> Result<(), AllocError> {
-    let mut first = true;
-    for component in element.components() {
-        if !first {
-            out.extend_from_slice(b" | ")?;
-        }
-        first = false;
-        push_component(out, &component)?;
-    }
-    Ok(())
-}
-
-// A segment: its number and its tag, then a line for each further element.
-fn push_segment(heap: Global, out: &mut Vec<u8>, segment: &Segment<'_>) -> Result<(), AllocError> {
-    let number = segment.number();
-    let head = format!(in heap; "{number:>6}  ")?;
-    out.extend_from_slice(head.as_bytes())?;
-    let tag = segment.tag();
-    out.extend_from_slice(&tag)?;
-    out.push(b'\n')?;
-    let mut elements = segment.elements();
-    let _ = elements.next();
-    let mut count: usize = 0;
-    for element in elements {
-        count = count.saturating_add(1);
-        let label = format!(in heap; "{count:>12}  ")?;
-        out.extend_from_slice(label.as_bytes())?;
-        push_element(out, &element)?;
-        out.push(b'\n')?;
-    }
-    Ok(())
-}
-
-fn at_place(heap: Global, place: Place, what: &str) -> Result<String, AllocError> {
-    let segment = place.segment;
-    let element = place.element;
-    let component = place.component;
-    format!(in heap; "segment {segment}, element {element}, component {component}: {what}")
-}
-
-// Why a text isn't cut throughout, in words.
-pub fn describe(heap: Global, fault: CutFault) -> Result<String, AllocError> {
-    match fault {
-        CutFault::BadHeader => {
-            String::from_str(
-                heap,
-                "the header UNA has under nine bytes, no space before the terminator, or unlawful marks (refusal 1)",
-            )
-        }
-        CutFault::ForbiddenByte(place) => at_place(
-            heap,
-            place,
-            "a byte that isn't allowed (refusal 2)",
-        ),
-        CutFault::UnendedSegment(place) => at_place(
-            heap,
-            place,
-            "the text ends before the segment does (refusal 3)",
-        ),
-        CutFault::BadTag(segment) => {
-            format!(in heap;
-                "segment {segment}: the tag isn't three letters A to Z, or is UNA (refusal 4)"
-            )
-        }
-    }
-}
-
-// The listing of a text under a name; answers the fault at which it is stopped.
-pub fn push_text(
-    heap: Global,
-    out: &mut Vec<u8>,
-    name: &str,
-    text: &[u8],
-) -> Result<Option<CutFault>, AllocError>
-    ensures { IfOk result (λ f. f ≡ (cut text.now).fault) }
+fn push_components(page: &mut Page, element: &Element<'_>) -> Result<(), AllocError>
+    ensures { OnOk result (page.new ≡ page.old ++ element_text (element_part element.now).marks (element_part element.now).bytes) }
 {
-    out.extend_from_slice(name.as_bytes())?;
-    out.push(b'\n')?;
-    let mut cutter = Cutter::new(text);
-    let mut count = 0;
-    loop {
-        let next = match cutter.next() {
-            Ok(next) => next,
-            Err(fault) => {
-                let why = describe(heap, fault)?;
-                out.extend_from_slice(b"stopped at ")?;
-                out.extend_from_slice(why.as_bytes())?;
-                out.push(b'\n')?;
-                return Ok(Some(fault));
-            }
-        };
-        let Some(segment) = next else {
-            let line = format!(in heap; "cut throughout, segments: {count}\n")?;
-            out.extend_from_slice(line.as_bytes())?;
-            return Ok(None);
-        };
-        push_segment(heap, out, &segment)?;
-        count = segment.number();
+    let mut components = element.components();
+    if let Some(first) = components.next() {
+        push_component(page, &first)?;
+    }
+    for component in components {
+        page.push_bytes(b" | ")?;
+        push_component(page, &component)?;
+    }
+    Ok(())
+}
+
+impl TextForm for Person {
+    ghost shown_name = { name_text };
+
+    ghost shown_head = { head_text };
+
+    ghost shown_element = { element_line };
+
+    ghost shown_end = { end_text };
+
+    ghost shown = { person_listing };
+
+    ghost in_order = { λ name text. refl };
+
+    fn push_name(page: &mut Page, name: &str) -> Result<(), AllocError> {
+        writeln!(page, "{name}")
+    }
+
+    // A segment's number and its tag.
+    fn push_head(page: &mut Page, segment: &Segment<'_>) -> Result<(), AllocError> {
+        let number = segment.number();
+        write!(page, "{number:>6}  ")?;
+        page.push_bytes(&segment.tag())?;
+        page.push(b'\n')
+    }
+
+    // An element's number and its components.
+    fn push_element(page: &mut Page, e: usize, element: &Element<'_>) -> Result<(), AllocError> {
+        write!(page, "{e:>12}  ")?;
+        push_components(page, element)?;
+        page.push(b'\n')
+    }
+
+    fn push_end(page: &mut Page, count: usize, fault: Option<CutFault>) -> Result<(), AllocError> {
+        match fault {
+            None => writeln!(page, "cut throughout, segments: {count}"),
+            Some(fault) => writeln!(page, "stopped at {fault}"),
+        }
     }
 }

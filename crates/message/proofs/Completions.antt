@@ -18,7 +18,7 @@ module _ (rows : List Row) (K : RowRules rows) where
     where
       at : kind rows j ≡ Trigger → Dec (1 ≤ level rows j) → 1 ≤ depth_at rows j
       at k (yes p) = omega (arith, depth_trigger rows j k)
-      at k (no p) = let z : ◌≡◌ {A = Kind} Plain Trigger = sym ((K.each j h).flat (omega arith)) ∙ k in let y : ◌≡◌ {A = ℕ} 0 1 = cc in absurd (omega arith)
+      at k (no p) = let z : ◌≡◌ {A = Kind} Plain Trigger = sym ((K.each j h).flat (omega arith)) ∙ k in cc
 
   pub depth-last : depth_at rows (length rows - 1) ≡ 1
   depth-last = depth-plain rows (length rows - 1) K.trailer.plain ∙ ap suc K.trailer.flat
@@ -44,7 +44,7 @@ module _ (rows : List Row) (K : RowRules rows) where
     where
       at : Dec (1 ≤ limit rows j) → 1 ≤ limit rows j
       at (yes p) = p
-      at (no p) = let o = (K.each j h).never (omega arith) in let y : ◌≡◌ {A = ℕ} 0 1 = cc in absurd (omega arith)
+      at (no p) = let o = (K.each j h).never (omega arith) in cc
 
   depth-inside : (j : ℕ) → 1 ≤ depth_at rows j → j < length rows
   depth-inside j h = at (dec_lt j (length rows))
@@ -116,10 +116,10 @@ module _ (rows : List Row) (K : RowRules rows) where
       at (w, a, l) = rw (none_left w l) at a
 
   not_optional : (j : ℕ) → j ≡ length rows - 1 → Omissible rows j → ⊥
-  not_optional j e o = let z : (row_at rows (length rows - 1)).need ≡ Required = K.trailer.required in let y : ◌≡◌ {A = ℕ} 0 1 = cc in omega arith
+  not_optional j e o = let z : (row_at rows (length rows - 1)).need ≡ Required = K.trailer.required in cc
 
   seat_nil : {x : Seat} {w : List Seat} → [] ≡ x ∷ w → ⊥
-  seat_nil e = let y : ◌≡◌ {A = ℕ} 0 1 = cc in omega arith
+  seat_nil e = cc
 
   -- before the end something must come
   empty-part : (n j : ℕ) (gs : List Open) → length rows ≡ j + suc n → Nested rows j gs → depth_at rows j ≡ within gs → (After rows (suc j) gs [] → ⊥) ⊎ (n ≡ 0) → After rows j gs [] → ⊥
@@ -167,7 +167,7 @@ module _ (rows : List Row) (K : RowRules rows) where
   past_end j [] k h (after (Level.over x) t) = at t refl
     where
       at : {v u : List Seat} {p : Seat} → Tails rows j [] v → v ≡ p ∷ u → ⊥
-      at whole e = let y : ◌≡◌ {A = ℕ} 0 1 = cc in omega arith
+      at whole e = cc
   past_end j [] k h (after (Level.inner x l) t) = absurd (omega (arith, depth-past rows j h))
   past_end j [] k h (after (Level.absent x o l) t) = absurd (omega (arith, depth-past rows j h))
   past_end j [] k h (after (Level.present x m a b c) t) = absurd (omega (arith, depth-past rows j h))

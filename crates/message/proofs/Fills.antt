@@ -1,8 +1,9 @@
 -- Each layout, header and trailer under the rules has a segment without fault.
-use Rattle.std.proofs.Common.{◌≡◌, ℕ, zero, suc, ◌+◌, ◌-◌, ◌*◌, ◌/◌, ◌%◌, ◌<◌, ◌≤◌, Bool, true, false, cond, ◌&&◌, eqb, leb, List, [], ◌∷◌, map, length, is_some, Some, None, Option, refl, ap, ◌∙◌, arith}
+use Rattle.std.proofs.Common.{◌≡◌, ℕ, zero, suc, ◌+◌, ◌-◌, ◌*◌, ◌/◌, ◌%◌, ◌<◌, ◌≤◌, Bool, true, false, cond, ◌&&◌, eqb, leb, List, [], ◌∷◌, map, length, replicate, is_some, Some, None, Option, refl, ap, ◌∙◌, arith}
 use Rattle.std.proofs.lemmas.Slice.Eq.{bytes_eq-Decides}
 use Rattle.std.proofs.lemmas.Bool.{and_parts, and_from, leb-true, le-leb, eqb-true, eq-eqb, cond-true, true≢false, false≢true}
 use Rattle.std.proofs.lemmas.Bool.Decides.{nat_tests}
+use Rattle.std.proofs.lemmas.List.{length-replicate}
 use Rattle.std.specs.Str.{bytes_eq}
 use Rattle.syntax.specs.declared.marks.DecimalMark.{DecimalMark}
 use Rattle.syntax.specs.declared.marks.DecimalMark.TheVariants.{Point, Comma}
@@ -22,55 +23,47 @@ use Rattle.message.specs.Fillable.{LayoutsFillable, HeadersFillable, TrailersFil
 
 -- Where a component has no codes it is filled with one character, as many times as its extent asks.
 
-abbrev times : ℕ → ℕ → List ℕ
-times zero c = []
-times (suc n) c = c ∷ times n c
-
 abbrev filler : Class → ℕ → List ℕ
-filler Alphabetic n = times n 65
-filler Numeric n = times n 49
-filler Alphanumeric n = times n 65
+filler Alphabetic n = replicate n 65
+filler Numeric n = replicate n 49
+filler Alphanumeric n = replicate n 65
 
 abbrev how_many : Extent → ℕ
 how_many (Exactly n) = n
 how_many (AtMost n) = 1
 
-all-times : (p : ℕ → Bool) (n c : ℕ) → p c ≡ true → all p (times n c) ≡ true
-all-times p zero c h = refl
-all-times p (suc n) c h = and_from (p c) (all p (times n c)) h (all-times p n c h)
+all-replicate : (p : ℕ → Bool) (n c : ℕ) → p c ≡ true → all p (replicate n c) ≡ true
+all-replicate p zero c h = refl
+all-replicate p (suc n) c h = and_from (p c) (all p (replicate n c)) h (all-replicate p n c h)
 
-length-times : (n c : ℕ) → length (times n c) ≡ n
-length-times zero c = refl
-length-times (suc n) c = ap suc (length-times n c)
+digit_count-replicate : (n : ℕ) → digit_count (replicate n 49) ≡ n
+digit_count-replicate zero = refl
+digit_count-replicate (suc n) = ap suc (digit_count-replicate n)
 
-digit_count-times : (n : ℕ) → digit_count (times n 49) ≡ n
-digit_count-times zero = refl
-digit_count-times (suc n) = ap suc (digit_count-times n)
-
-unsigned-times : (d : DecimalMark) (n : ℕ) → unsigned d true (times n 49) ≡ true
-unsigned-times d zero = refl
-unsigned-times d (suc n) = unsigned-times d n
+unsigned-replicate : (d : DecimalMark) (n : ℕ) → unsigned d true (replicate n 49) ≡ true
+unsigned-replicate d zero = refl
+unsigned-replicate d (suc n) = unsigned-replicate d n
 
 filler-class : (c : Class) (d : DecimalMark) (n : ℕ) → 1 ≤ n → of_class c d (filler c n) ≡ true
-filler-class Alphabetic d n h = all-times letter_or_space n 65 refl
+filler-class Alphabetic d n h = all-replicate letter_or_space n 65 refl
 filler-class Numeric d zero h = absurd (omega arith)
-filler-class Numeric d (suc n) h = unsigned-times d n
+filler-class Numeric d (suc n) h = unsigned-replicate d n
 filler-class Alphanumeric d n h = refl
 
 filler-size : (c : Class) (n : ℕ) → size c (filler c n) ≡ n
-filler-size Alphabetic n = length-times n 65
-filler-size Numeric n = digit_count-times n
-filler-size Alphanumeric n = length-times n 65
+filler-size Alphabetic n = length-replicate n 65
+filler-size Numeric n = digit_count-replicate n
+filler-size Alphanumeric n = length-replicate n 65
 
 filler-length : (c : Class) (n : ℕ) → length (filler c n) ≡ n
-filler-length Alphabetic n = length-times n 65
-filler-length Numeric n = length-times n 49
-filler-length Alphanumeric n = length-times n 65
+filler-length Alphabetic n = length-replicate n 65
+filler-length Numeric n = length-replicate n 49
+filler-length Alphanumeric n = length-replicate n 65
 
 filler-plain : (c : Class) (n : ℕ) → all letter_or_digit (filler c n) ≡ true
-filler-plain Alphabetic n = all-times letter_or_digit n 65 refl
-filler-plain Numeric n = all-times letter_or_digit n 49 refl
-filler-plain Alphanumeric n = all-times letter_or_digit n 65 refl
+filler-plain Alphabetic n = all-replicate letter_or_digit n 65 refl
+filler-plain Numeric n = all-replicate letter_or_digit n 49 refl
+filler-plain Alphanumeric n = all-replicate letter_or_digit n 65 refl
 
 extent_met : (x : Extent) → extent_rule x ≡ true → (within x (how_many x) ≡ true) × (1 ≤ how_many x)
 extent_met (Exactly n) h = (eq-eqb n n refl, leb-true 1 n (and_parts (leb 1 n) (leb n 999) h).0)

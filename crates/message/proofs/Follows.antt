@@ -384,7 +384,7 @@ module _ (rows : List Row) (K : RowRules rows) where
   -- a message begins with the header's row
   first-row : (t : List Open) → Ahead rows 0 [] t → row_of t ≡ 0
   first-row t (first l h k) = refl
-  first-row t (pass l h o a) = let z : (row_at rows 0).need ≡ Required = K.header.required in let y : ◌≡◌ {A = ℕ} 0 1 = cc in absurd (omega arith)
+  first-row t (pass l h o a) = let z : (row_at rows 0).need ≡ Required = K.header.required in cc
   first-row t (skip l h a) = absurd (omega (arith, header-depth))
 
   first_seat : (q m : ℕ) (w : List Seat) → RowMessage rows (q # m ∷ w) → q ≡ 0
@@ -403,8 +403,8 @@ module _ (rows : List Row) (K : RowRules rows) where
 
   one_by_one : (w x : List Seat) (v y : List Seat) {s : List Open} {u : List Seat} → ClearRows rows → Stands rows s u → RowMessage rows (u ++ (w ++ v)) → RowMessage rows (u ++ (x ++ y)) → tags_of rows w ≡ tags_of rows x → w ≡ x
   one_by_one [] [] v y c h f g e = refl
-  one_by_one [] (r # n ∷ x) v y c h f g e = let z : ◌≡◌ {A = ℕ} 0 1 = cc in absurd (omega arith)
-  one_by_one (q # m ∷ w) [] v y c h f g e = let z : ◌≡◌ {A = ℕ} 0 1 = cc in absurd (omega arith)
+  one_by_one [] (r # n ∷ x) v y c h f g e = cc
+  one_by_one (q # m ∷ w) [] v y c h f g e = cc
   one_by_one (q # m ∷ w) (r # n ∷ x) v y {s} {u} c h f g e =
       let tag : (row_at rows q).tag ≡ (row_at rows r).tag = cc in
       let tags : tags_of rows w ≡ tags_of rows x = cc in

@@ -217,7 +217,7 @@ module _ (rows : List Row) where
     further-run {j} {n} (again h a r) k l = run_weaker (run-one (same a (omega (arith, depth-after-plain j k))) (further-run r k (omega arith)))
 
     not-required : (j : ℕ) → Omissible rows j → (row_at rows j).need ≡ Required → 1 ≤ 0
-    not-required j o e = let z : ◌≡◌ {A = ℕ} 1 0 = cc in omega arith
+    not-required j o e = cc
 
     -- what is left of the level, from where it resumes
     abbrev Rest : ℕ → ℕ → List Seat → List Seat → Type 0
@@ -246,9 +246,6 @@ module _ (rows : List Row) where
 
         by-group : kind rows j ≡ Trigger → (e : ℕ) × GroupEnd rows (suc l) (suc j) e → (m : ℕ) × (1 ≤ m) × (m ≤ limit rows j) × GroupRun rows j 1 m t u → Runs rows l j (j # 1 ∷ w) v
         by-group k (e, q) (m, x, y, z) = let lev : level rows j ≡ suc l = omega (arith, depth_trigger j k) in group k lev (record { most = y; least = λ _. x }) (one (rw lev f) z) q (r e (end_resumes (suc l) (suc j) e q))
-
-    group_weaker : {j n : ℕ} {w v : List Seat} → (m : ℕ) × (suc n ≤ m) × (m ≤ limit rows j) × GroupRun rows j n m w v → (m : ℕ) × (n ≤ m) × (m ≤ limit rows j) × GroupRun rows j n m w v
-    group_weaker (m, x, y, z) = (m, omega arith, y, z)
 
     group-one : {j n : ℕ} {w u v : List Seat} → Runs rows (level rows j) (suc j) w u → (m : ℕ) × (suc n ≤ m) × (m ≤ limit rows j) × GroupRun rows j (suc n) m u v → (m : ℕ) × (n ≤ m) × (m ≤ limit rows j) × GroupRun rows j n m (j # suc n ∷ w) v
     group-one f (m, x, y, z) = (m, omega arith, y, one f z)

@@ -10,6 +10,5 @@ pub mod Follows
 pub mod WalkLaws
 pub mod Clearness
 mod Searches
-mod Places
 mod Walks
 pub mod Fills

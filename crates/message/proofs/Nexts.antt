@@ -46,7 +46,7 @@ ahead-ends j o gs r rs h = at (ends_at (depth r) o) (ends_when (depth r) o h)
         cond b (with_if (may_repeat o) (repeated o ∷ gs) (come_again (depth r) gs)) [] ++ at_row j (cond b (still_open (depth r) gs) (o ∷ gs)) r rs
         ≡ with_if (may_repeat o) (repeated o ∷ gs) (come_again (depth r) gs ++ at_row j (still_open (depth r) gs) r rs)
     at true e = with_if-append (may_repeat o) (repeated o ∷ gs) (come_again (depth r) gs) (at_row j (still_open (depth r) gs) r rs)
-    at false e = let z : ◌≡◌ {A = ℕ} 0 1 = cc in absurd (omega arith)
+    at false e = cc
 
 -- none of the open rows ends before row j
 pub ahead_open : (j : ℕ) (gs : List Open) (r : Row) (rs : List Row) → within gs ≤ depth r → ahead j gs (r ∷ rs) ≡ at_row j gs r rs
@@ -56,7 +56,7 @@ ahead_open j (o ∷ gs) r rs h = at (ends_at (depth r) o) (open_when (depth r) o
   where
     at : (b : Bool) → b ≡ false →
         cond b (with_if (may_repeat o) (repeated o ∷ gs) (come_again (depth r) gs)) [] ++ at_row j (cond b (still_open (depth r) gs) (o ∷ gs)) r rs ≡ at_row j (o ∷ gs) r rs
-    at true e = let z : ◌≡◌ {A = ℕ} 0 1 = cc in absurd (omega arith)
+    at true e = cc
     at false e = refl
 
 mem_with_if : {X : Type 0} {y : X} (b : Bool) (x : X) (xs : List X) → Memᴰ y (with_if b x xs) → ((b ≡ true) × (y ≡ x)) ⊎ Memᴰ y xs
@@ -69,7 +69,7 @@ mem_with_if false x xs m = inr m
 
 with_if_head : {X : Type 0} (b : Bool) (x : X) (xs : List X) → b ≡ true → Memᴰ x (with_if b x xs)
 with_if_head true x xs e = mathlib.Core.List.Memᴰ.head refl
-with_if_head false x xs e = let z : ◌≡◌ {A = ℕ} 0 1 = cc in absurd (omega arith)
+with_if_head false x xs e = cc
 
 with_if_tail : {X : Type 0} {y : X} (b : Bool) (x : X) (xs : List X) → Memᴰ y xs → Memᴰ y (with_if b x xs)
 with_if_tail true x xs m = mathlib.Core.List.Memᴰ.tail m
@@ -89,14 +89,14 @@ module _ (rows : List Row) where
     where
       at : Dec (j < length rows) → (row_at rows j ≡ r) × (drop (suc j) rows ≡ rs) × (j < length rows)
       at (yes p) = let m = drop_more rows j past_last p in let a : row_at rows j ≡ r = cc in let b : drop (j + 1) rows ≡ rs = cc in (a, (rw add-one at b), p)
-      at (no p) = let m = drop_all j rows (omega arith) in let z : ◌≡◌ {A = ℕ} 0 1 = cc in absurd (omega arith)
+      at (no p) = let m = drop_all j rows (omega arith) in cc
 
   pub rows_from : (j : ℕ) → j < length rows → drop j rows ≡ row_at rows j ∷ drop (suc j) rows
   rows_from j h = let m = drop_more rows j past_last h in rw add-one at m
 
   pub need_optional : (n : Need) → is_required n ≡ false → n ≡ Optional
   need_optional Optional e = refl
-  need_optional Required e = let z : ◌≡◌ {A = ℕ} 0 1 = cc in absurd (omega arith)
+  need_optional Required e = cc
 
   module _ (K : RowRules rows) where
     -- a state that the pass finds

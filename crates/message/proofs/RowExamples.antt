@@ -17,14 +17,14 @@ rows =
     ∷ []
 
 never : Optional ≡ Required → ⊥
-never e = let z : ◌≡◌ {A = ℕ} 0 1 = cc in omega arith
+never e = cc
 
 -- an optional row, or a group, that doesn't occur
 left_out : (j : ℕ) → (row_at rows j).need ≡ Optional → Times rows j 0
 left_out j e = record { most = omega arith; least = λ r. absurd (never (sym e ∙ r)) }
 
 plain_no_trigger : Plain ≡ Trigger → ⊥
-plain_no_trigger e = let z : ◌≡◌ {A = ℕ} 0 1 = cc in omega arith
+plain_no_trigger e = cc
 
 -- DTM stands in the group of RFF
 date_inside : Outside rows 1 2 → ⊥

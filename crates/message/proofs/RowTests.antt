@@ -14,24 +14,24 @@ use Rattle.message.specs.Rows.{row_at, IsTag, Service, RowRule, RowRules}
 use Rattle.message.specs.RowTests.{is_plain, is_required, implies, tag_test, rises_test, row_test, each_row, service_test, rows_test}
 
 plain_is : (k : Kind) → is_plain k ≡ true → k ≡ Plain
-plain_is Trigger h = let z : ◌≡◌ {A = ℕ} 0 1 = cc in absurd (omega arith)
+plain_is Trigger h = cc
 plain_is Plain h = refl
 
 trigger_is : (k : Kind) → not (is_plain k) ≡ true → k ≡ Trigger
 trigger_is Trigger h = refl
-trigger_is Plain h = let z : ◌≡◌ {A = ℕ} 0 1 = cc in absurd (omega arith)
+trigger_is Plain h = cc
 
 required_is : (n : Need) → is_required n ≡ true → n ≡ Required
-required_is Optional h = let z : ◌≡◌ {A = ℕ} 0 1 = cc in absurd (omega arith)
+required_is Optional h = cc
 required_is Required h = refl
 
 optional_is : (n : Need) → not (is_required n) ≡ true → n ≡ Optional
 optional_is Optional h = refl
-optional_is Required h = let z : ◌≡◌ {A = ℕ} 0 1 = cc in absurd (omega arith)
+optional_is Required h = cc
 
 implied : (b c : Bool) → implies b c ≡ true → b ≡ true → c ≡ true
 implied true c h e = h
-implied false c h e = let z : ◌≡◌ {A = ℕ} 0 1 = cc in absurd (omega arith)
+implied false c h e = cc
 
 same_true : (xs ys : List ℕ) → xs ≡ ys → bytes_eq xs ys ≡ true
 same_true xs ys e = (bytes_eq-Decides xs ys).1 e
@@ -110,7 +110,7 @@ rule_is rows j h =
       tagged = tag_is r.tag b.0;
       header = λ t. eqb-true j 0 (implied (bytes_eq r.tag (codes "UNH")) (eqb j 0) c.0 (same_true r.tag (codes "UNH") t));
       trailer = λ t. eqb-true j (length rows - 1) (implied (bytes_eq r.tag (codes "UNT")) (eqb j (length rows - 1)) d.0 (same_true r.tag (codes "UNT") t));
-      other = λ t. let no : bytes_eq r.tag (codes "UNA") ≡ false = not-true (bytes_eq r.tag (codes "UNA")) d.1 in let yet = same_true r.tag (codes "UNA") t in let z : ◌≡◌ {A = ℕ} 0 1 = cc in omega arith;
+      other = λ t. let no : bytes_eq r.tag (codes "UNA") ≡ false = not-true (bytes_eq r.tag (codes "UNA")) d.1 in let yet = same_true r.tag (codes "UNA") t in cc;
       deep = leb-true r.level 7 f.0;
       flat = λ t. plain_is r.kind (implied (eqb r.level 0) (is_plain r.kind) f.1 (eq-eqb r.level 0 t));
       rises = next_rise rows j g.0;

@@ -1,16 +1,18 @@
 -- What the search for the next row rests on.
-use Rattle.std.proofs.Common.{◌≡◌, ℕ, zero, suc, ◌+◌, ◌-◌, ◌<◌, ◌≤◌, min, Bool, true, false, cond, ◌&&◌, ltb, leb, List, [], ◌∷◌, ◌++◌, length, get_or, drop, IfSome, Some, None, Option, sym, refl, ap, ◌∙◌, subst, inl, inr, add-one, sub-one, arith}
-use Rattle.std.specs.List.{slice_get}
-use Rattle.std.proofs.lemmas.Bool.{cond_both, cond-true, cond-false, le-leb, cases_lt, lt-ltb, le-ltb}
-use Rattle.std.proofs.lemmas.List.{drop_all}
+use Rattle.std.proofs.Common.{◌≡◌, ℕ, suc, ◌+◌, ◌<◌, ◌≤◌, min, Bool, true, false, cond, ◌&&◌, ltb, leb, List, [], ◌∷◌, ◌++◌, length, take, drop, IfSome, Some, None, Option, sym, refl, ap, ◌∙◌, subst, inl, inr, add-one, append_assoc, append-nil, length-append, arith}
+use Rattle.std.specs.List.{slice_get, IsLastAndRest}
+use Rattle.std.proofs.Math.Seq.{take-append_seam, drop-cons}
+use Rattle.std.proofs.lemmas.Option.{slice_get_within, get_or_from_slice_get, slice_get_cases}
+use Rattle.std.proofs.lemmas.Bool.{cond_both, cond-true, cond-false, cases_lt, lt-ltb, le-ltb}
+use Rattle.std.proofs.lemmas.List.{drop_all, reverse-append, take-append-le, nil_from_length}
 use Rattle.std.proofs.lemmas.Bool.Decides.{nat_tests}
 use Rattle.std.specs.Option.{option_map}
 use Rattle.message.specs.declared.row.Row.{Row}
 use Rattle.message.specs.declared.open.Open.{Open}
 use Rattle.message.specs.declared.open.Next.{Next}
-use Rattle.message.specs.Walk.{depth, within, begun, repeated, may_repeat, has_tag, ends_at, still_open, come_again, of_tag, row_of, lower, lowest, with_if, ahead, position, next}
+use Rattle.message.specs.Walk.{depth, within, begun, repeated, may_repeat, has_tag, ends_at, still_open, come_again, of_tag, lower, lowest, with_if, ahead, position, next}
 use Rattle.message.specs.RowTests.{is_required}
-use Rattle.message.specs.Searching.{no_open, state_of, leads_to, again_if, first_if, lower_next, innermost, parts_depth, behind, Closes}
+use Rattle.message.specs.Searching.{state_of, leads_to, again_if, first_if, lower_next, Finds, Closes}
 
 -- the lower of two, as an operation
 
@@ -49,197 +51,144 @@ mapped_both held tag n true false = refl
 mapped_both held tag n false true = refl
 mapped_both held tag n false false = refl
 
-pub mapped_again : (held : List Open) (tag : List ℕ) (o : Open) (k : ℕ) → option_map (leads_to held) (again_if tag o k) ≡ cond (may_repeat o) (of_tag tag (repeated o ∷ state_of held k)) None
+pub mapped_again : (held : List Open) (tag : List ℕ) (o : Open) (k : ℕ) → option_map (leads_to held) (again_if tag o k) ≡ cond (may_repeat o) (of_tag tag (repeated o ∷ state_of (take k held))) None
 mapped_again held tag o k = mapped_both held tag (record { opened = repeated o; under = k }) (may_repeat o) (has_tag tag o.row)
 
-pub mapped_first : (held : List Open) (tag : List ℕ) (j : ℕ) (r : Row) (k : ℕ) → option_map (leads_to held) (first_if tag j r k) ≡ cond (leb 1 r.limit) (of_tag tag (begun j r ∷ state_of held k)) None
+pub mapped_first : (held : List Open) (tag : List ℕ) (j : ℕ) (r : Row) (k : ℕ) → option_map (leads_to held) (first_if tag j r k) ≡ cond (leb 1 r.limit) (of_tag tag (begun j r ∷ state_of (take k held))) None
 mapped_first held tag j r k = mapped_both held tag (record { opened = begun j r; under = k }) (leb 1 r.limit) (has_tag tag r)
 
--- the open rows of a table, from the innermost
+-- a table from its end
 
-pub state_of_more : (held : List Open) (u : ℕ) → 1 ≤ u → state_of held u ≡ get_or held (u - 1) no_open ∷ state_of held (u - 1)
-state_of_more held zero h = absurd (omega arith)
-state_of_more held (suc k) h = rw sub-one
+pub state_of_last : (xs rest : List Open) (o : Open) → xs ≡ rest ++ (o ∷ []) → state_of xs ≡ o ∷ state_of rest
+state_of_last xs rest o e = ap state_of e ∙ reverse-append rest (o ∷ [])
 
-pub still_open-end : (d : ℕ) (o : Open) (gs : List Open) → ends_at d o ≡ true → still_open d (o ∷ gs) ≡ still_open d gs
-still_open-end d o gs e = rw e
+-- what stands in the first of the open rows does so in all of them
+leads_to_part : (held open' ended : List Open) (r : Option Next) → held ≡ open' ++ ended → IfSome r (λ n. n.under ≤ length open') → option_map (leads_to held) r ≡ option_map (leads_to open') r
+leads_to_part held open' ended None e h = refl
+leads_to_part held open' ended (Some n) e h = ap (λ (xs : List Open). Some (n.opened ∷ state_of xs)) (ap (take n.under) e ∙ take-append-le n.under open' ended h)
 
-pub still_open_stay : (d : ℕ) (o : Open) (gs : List Open) → ends_at d o ≡ false → still_open d (o ∷ gs) ≡ o ∷ gs
-still_open_stay d o gs e = rw e
+lower-within : (held : List Open) (a b : Option Next) → IfSome a (λ n. n.under ≤ length held) → IfSome b (λ n. n.under ≤ length held) → IfSome (lower_next a b) (λ n. n.under ≤ length held)
+lower-within held None b ha hb = hb
+lower-within held (Some m) None ha hb = ha
+lower-within held (Some m) (Some n) ha hb = cond_both (ltb n.opened.number m.opened.number) (Some n) (Some m) (λ r. IfSome r (λ n. n.under ≤ length held)) (λ _. hb) (λ _. ha)
 
-pub come_again-end : (d : ℕ) (o : Open) (gs : List Open) → ends_at d o ≡ true → come_again d (o ∷ gs) ≡ with_if (may_repeat o) (repeated o ∷ gs) (come_again d gs)
-come_again-end d o gs e = rw e
+if-within : (b : Bool) (held : List Open) (n : Next) → n.under ≤ length held → IfSome (cond b (Some n) None) (λ n. n.under ≤ length held)
+if-within true held n h = h
+if-within false held n h = tt
 
-pub come_again_stay : (d : ℕ) (o : Open) (gs : List Open) → ends_at d o ≡ false → come_again d (o ∷ gs) ≡ []
-come_again_stay d o gs e = rw e
-
--- what the loop of `close` keeps: with what is left to end, it gives what it began with
+-- what the loop of `close` keeps: with what is left to end, it gives what it began with. The check finds the lemmas on its begin and its ends by itself.
 module _ (held : List Open) (d : ℕ) (tag : List ℕ) where
-  pub record Closing (u : ℕ) (b : Option Next) (u' : ℕ) (b' : Option Next) : Type 0 where
-    pub fewer : u' ≤ u
-    pub still : still_open d (state_of held u') ≡ still_open d (state_of held u)
-    pub found : lower (option_map (leads_to held) b') (lowest tag (come_again d (state_of held u'))) ≡ lower (option_map (leads_to held) b) (lowest tag (come_again d (state_of held u)))
+  pub record Closing (open' : List Open) (again : Option Next) : Type 0 where
+    pub part : (ended : List Open) × (held ≡ open' ++ ended)
+    pub still : still_open d (state_of open') ≡ still_open d (state_of held)
+    pub found : lower (option_map (leads_to held) again) (lowest tag (come_again d (state_of open'))) ≡ lowest tag (come_again d (state_of held))
+    pub within : IfSome again (λ n. n.under ≤ length held)
 
-  pub closing_start : (u : ℕ) (b : Option Next) → Closing u b u b
-  closing_start u b = record { fewer = omega arith; still = refl; found = refl }
+  pub closing_start : Closing held None
+  closing_start = record { part = ([], sym (append-nil held)); still = refl; found = refl; within = tt }
 
-  pub closing_step : (u : ℕ) (b : Option Next) (u' : ℕ) (b' : Option Next) (e : Bool) (a b'' : Option Next) → Closing u b u' b' → 1 ≤ u' → e ≡ ends_at d (get_or held (u' - 1) no_open) → e ≡ true → a ≡ again_if tag (get_or held (u' - 1) no_open) (u' - 1) → b'' ≡ lower_next b' a → Closing u b (u' - 1) b''
-  closing_step u b u' b' e a b'' h p ends t ea eb = record { fewer = omega arith; still = still; found = found }
+  pub closing_step : (open' outer : List Open) (o : Open) (again a again' : Option Next) (e : Bool) → Closing open' again → IsLastAndRest open' o outer → e ≡ ends_at d o → e ≡ true → a ≡ again_if tag o (length outer) → again' ≡ lower_next again a → Closing outer again'
+  closing_step open' outer o again a again' e h last ends t ea eb = record { part = (o ∷ h.part.0, whole); still = still; found = found; within = within }
     where
-      yes : ends_at d (get_or held (u' - 1) no_open) ≡ true
+      yes : ends_at d o ≡ true
       yes = sym ends ∙ t
 
-      still : still_open d (state_of held (u' - 1)) ≡ still_open d (state_of held u)
-      still = sym (still_open-end d (get_or held (u' - 1) no_open) (state_of held (u' - 1)) yes) ∙ ap (still_open d) (sym (state_of_more held u' p)) ∙ h.still
+      whole : held ≡ outer ++ (o ∷ h.part.0)
+      whole = h.part.1 ∙ ap (λ (xs : List Open). xs ++ h.part.0) last.0 ∙ append_assoc outer (o ∷ []) h.part.0
 
-      new : option_map (leads_to held) b'' ≡ lower (option_map (leads_to held) b') (cond (may_repeat (get_or held (u' - 1) no_open)) (of_tag tag (repeated (get_or held (u' - 1) no_open) ∷ state_of held (u' - 1))) None)
-      new = ap (option_map (leads_to held)) eb ∙ mapped_lower held b' a ∙ ap (λ (x : Option Next). lower (option_map (leads_to held) b') (option_map (leads_to held) x)) ea ∙ ap (lower (option_map (leads_to held) b')) (mapped_again held tag (get_or held (u' - 1) no_open) (u' - 1))
+      at : state_of open' ≡ o ∷ state_of outer
+      at = state_of_last open' outer o last.0
 
-      old : lowest tag (come_again d (state_of held u')) ≡ lower (cond (may_repeat (get_or held (u' - 1) no_open)) (of_tag tag (repeated (get_or held (u' - 1) no_open) ∷ state_of held (u' - 1))) None) (lowest tag (come_again d (state_of held (u' - 1))))
-      old = ap (λ (s : List Open). lowest tag (come_again d s)) (state_of_more held u' p) ∙ ap (lowest tag) (come_again-end d (get_or held (u' - 1) no_open) (state_of held (u' - 1)) yes) ∙ lowest-with_if tag (may_repeat (get_or held (u' - 1) no_open)) (repeated (get_or held (u' - 1) no_open) ∷ state_of held (u' - 1)) (come_again d (state_of held (u' - 1)))
+      still : still_open d (state_of outer) ≡ still_open d (state_of held)
+      still = sym (ap (still_open d) at ∙ cond-true (ends_at d o) (still_open d (state_of outer)) (o ∷ state_of outer) yes) ∙ h.still
 
-      found : lower (option_map (leads_to held) b'') (lowest tag (come_again d (state_of held (u' - 1)))) ≡ lower (option_map (leads_to held) b) (lowest tag (come_again d (state_of held u)))
+      F : Option (List Open)
+      F = cond (may_repeat o) (of_tag tag (repeated o ∷ state_of outer)) None
+
+      mine : option_map (leads_to held) a ≡ F
+      mine = ap (option_map (leads_to held)) ea ∙ mapped_again held tag o (length outer) ∙ ap (λ (xs : List Open). cond (may_repeat o) (of_tag tag (repeated o ∷ state_of xs)) None) (ap (take (length outer)) whole ∙ take-append_seam outer (o ∷ h.part.0))
+
+      new : option_map (leads_to held) again' ≡ lower (option_map (leads_to held) again) F
+      new = ap (option_map (leads_to held)) eb ∙ mapped_lower held again a ∙ ap (lower (option_map (leads_to held) again)) mine
+
+      old : lowest tag (come_again d (state_of open')) ≡ lower F (lowest tag (come_again d (state_of outer)))
+      old =
+          ap (λ (s : List Open). lowest tag (come_again d s)) at
+          ∙ ap (lowest tag) (cond-true (ends_at d o) (with_if (may_repeat o) (repeated o ∷ state_of outer) (come_again d (state_of outer))) [] yes)
+          ∙ lowest-with_if tag (may_repeat o) (repeated o ∷ state_of outer) (come_again d (state_of outer))
+
+      found : lower (option_map (leads_to held) again') (lowest tag (come_again d (state_of outer))) ≡ lowest tag (come_again d (state_of held))
       found =
-          ap (λ (x : Option (List Open)). lower x (lowest tag (come_again d (state_of held (u' - 1))))) new
-          ∙ lower_assoc (option_map (leads_to held) b') (cond (may_repeat (get_or held (u' - 1) no_open)) (of_tag tag (repeated (get_or held (u' - 1) no_open) ∷ state_of held (u' - 1))) None) (lowest tag (come_again d (state_of held (u' - 1))))
-          ∙ ap (lower (option_map (leads_to held) b')) (sym old)
+          ap (λ (x : Option (List Open)). lower x (lowest tag (come_again d (state_of outer)))) new
+          ∙ lower_assoc (option_map (leads_to held) again) F (lowest tag (come_again d (state_of outer)))
+          ∙ ap (lower (option_map (leads_to held) again)) (sym old)
           ∙ h.found
 
-  pub closing_none : (u : ℕ) (b : Option Next) (u' : ℕ) (b' : Option Next) → Closing u b u' b' → u' ≤ 0 → Closes held d tag u b u' b'
-  closing_none u b zero b' h z = record { fewer = h.fewer; still = h.still; found = sym (lower-none (option_map (leads_to held) b')) ∙ h.found }
-  closing_none u b (suc k) b' h z = absurd (omega arith)
+      within : IfSome again' (λ n. n.under ≤ length held)
+      within = subst (λ (r : Option Next). IfSome r (λ n. n.under ≤ length held)) (sym eb) (lower-within held again a h.within (subst (λ (r : Option Next). IfSome r (λ n. n.under ≤ length held)) (sym ea) (if-within (may_repeat o && has_tag tag o.row) held (record { opened = repeated o; under = length outer }) (omega (arith, ap length whole, length-append outer (o ∷ h.part.0))))))
 
-  pub closing_stay : (u : ℕ) (b : Option Next) (u' : ℕ) (b' : Option Next) (e : Bool) → Closing u b u' b' → 1 ≤ u' → e ≡ ends_at d (get_or held (u' - 1) no_open) → e ≡ false → Closes held d tag u b u' b'
-  closing_stay u b u' b' e h p ends f = record { fewer = h.fewer; still = still; found = found }
+  pub closing_none : (open' : List Open) (again : Option Next) → Closing open' again → length open' ≡ 0 → Closes held d tag open' again
+  closing_none open' again h z = record { part = h.part; still = none_still ∙ h.still; found = record { state = sym (lower-none (option_map (leads_to held) again)) ∙ ap (lower (option_map (leads_to held) again)) none_found ∙ h.found; within = h.within } }
     where
-      no : ends_at d (get_or held (u' - 1) no_open) ≡ false
+      none : state_of open' ≡ []
+      none = ap state_of (nil_from_length open' z)
+
+      none_still : state_of open' ≡ still_open d (state_of open')
+      none_still = none ∙ sym (ap (still_open d) none)
+
+      none_found : None ≡ lowest tag (come_again d (state_of open'))
+      none_found = sym (ap (λ (s : List Open). lowest tag (come_again d s)) none)
+
+  pub closing_stay : (open' outer : List Open) (o : Open) (again : Option Next) (e : Bool) → Closing open' again → IsLastAndRest open' o outer → e ≡ ends_at d o → e ≡ false → Closes held d tag open' again
+  closing_stay open' outer o again e h last ends f = record { part = h.part; still = still; found = record { state = found; within = h.within } }
+    where
+      no : ends_at d o ≡ false
       no = sym ends ∙ f
 
-      still : state_of held u' ≡ still_open d (state_of held u)
-      still = state_of_more held u' p ∙ sym (still_open_stay d (get_or held (u' - 1) no_open) (state_of held (u' - 1)) no) ∙ ap (still_open d) (sym (state_of_more held u' p)) ∙ h.still
+      at : state_of open' ≡ o ∷ state_of outer
+      at = state_of_last open' outer o last.0
 
-      found : option_map (leads_to held) b' ≡ lower (option_map (leads_to held) b) (lowest tag (come_again d (state_of held u)))
-      found = sym (lower-none (option_map (leads_to held) b')) ∙ ap (lower (option_map (leads_to held) b')) (sym (ap (λ (s : List Open). lowest tag (come_again d s)) (state_of_more held u' p) ∙ ap (lowest tag) (come_again_stay d (get_or held (u' - 1) no_open) (state_of held (u' - 1)) no))) ∙ h.found
+      still : state_of open' ≡ still_open d (state_of held)
+      still = at ∙ sym (ap (still_open d) at ∙ cond-false (ends_at d o) (still_open d (state_of outer)) (o ∷ state_of outer) no) ∙ h.still
+
+      found : option_map (leads_to held) again ≡ lowest tag (come_again d (state_of held))
+      found =
+          sym (lower-none (option_map (leads_to held) again))
+          ∙ ap (lower (option_map (leads_to held) again)) (sym (ap (λ (s : List Open). lowest tag (come_again d s)) at ∙ ap (lowest tag) (cond-false (ends_at d o) (with_if (may_repeat o) (repeated o ∷ state_of outer) (come_again d (state_of outer))) [] no)))
+          ∙ h.found
 
 -- rows by their number
 
-pub drop_at_nth : {X : Type 0} (xs : List X) (i : ℕ) (x : X) → Some x ≡ slice_get xs i → drop i xs ≡ x ∷ drop (i + 1) xs
-drop_at_nth [] i x e = let z : ◌≡◌ {A = ℕ} 0 1 = cc in absurd (omega arith)
-drop_at_nth (y ∷ ys) zero x e = cc
-drop_at_nth (y ∷ ys) (suc i) x e = let one : suc (i + 1) ≡ suc i + 1 = omega arith in drop_at_nth ys i x e ∙ ap (λ (n : ℕ). x ∷ drop n (y ∷ ys)) one
+drop_at_nth : {X : Type 0} (xs : List X) (i : ℕ) (x : X) → Some x ≡ slice_get xs i → drop i xs ≡ x ∷ drop (suc i) xs
+drop_at_nth xs i x e = drop-cons xs i x (slice_get_within xs i x (sym e)) ∙ ap (λ y. y ∷ drop (suc i) xs) (get_or_from_slice_get xs i x x (sym e))
 
-pub drop-at-none : {X : Type 0} (xs : List X) (i : ℕ) → None ≡ slice_get xs i → drop i xs ≡ []
-drop-at-none [] zero e = refl
-drop-at-none [] (suc i) e = refl
-drop-at-none (y ∷ ys) zero e = let z : ◌≡◌ {A = ℕ} 0 1 = cc in absurd (omega arith)
-drop-at-none (y ∷ ys) (suc i) e = drop-at-none ys i e
-
-pub innermost-within : (held : List Open) (u : ℕ) → u ≤ length held → parts_depth (innermost held u) ≡ within (state_of held u)
-innermost-within held zero h = refl
-innermost-within held (suc k) h = rw (le-leb 1 (suc k) (omega arith), le-leb (suc k) (length held) h, sub-one)
-
-pub innermost-behind : (held : List Open) (u : ℕ) → u ≤ length held → behind (innermost held u) ≡ position (state_of held u)
-innermost-behind held zero h = refl
-innermost-behind held (suc k) h = rw (le-leb 1 (suc k) (omega arith), le-leb (suc k) (length held) h, sub-one)
-
--- how long the states are that may come next
-
-abbrev pub AtMost : ℕ → Option (List Open) → Type 0
-AtMost n None = Unit {0}
-AtMost n (Some s) = length s ≤ n
-
-abbrev pub AllAtMost : ℕ → List (List Open) → Type 0
-AllAtMost n [] = Unit {0}
-AllAtMost n (s ∷ ss) = (length s ≤ n) × AllAtMost n ss
-
-lower-at-most : (n : ℕ) (a b : Option (List Open)) → AtMost n a → AtMost n b → AtMost n (lower a b)
-lower-at-most n None b ha hb = hb
-lower-at-most n (Some s) None ha hb = ha
-lower-at-most n (Some s) (Some t) ha hb = cond_both (ltb (row_of t) (row_of s)) (Some t) (Some s) (AtMost n) (λ _. hb) (λ _. ha)
-
-of_tag-at-most : (n : ℕ) (tag : List ℕ) (s : List Open) → length s ≤ n → AtMost n (of_tag tag s)
-of_tag-at-most n tag [] h = tt
-of_tag-at-most n tag (o ∷ gs) h = cond_both (has_tag tag o.row) (Some (o ∷ gs)) None (AtMost n) (λ _. h) (λ _. tt)
-
-pub lowest-at-most : (n : ℕ) (tag : List ℕ) (ss : List (List Open)) → AllAtMost n ss → AtMost n (lowest tag ss)
-lowest-at-most n tag [] h = tt
-lowest-at-most n tag (s ∷ ss) h = lower-at-most n (of_tag tag s) (lowest tag ss) (of_tag-at-most n tag s h.0) (lowest-at-most n tag ss h.1)
-
-all-++ : (n : ℕ) (ss ts : List (List Open)) → AllAtMost n ss → AllAtMost n ts → AllAtMost n (ss ++ ts)
-all-++ n [] ts hs ht = ht
-all-++ n (s ∷ ss) ts hs ht = (hs.0, all-++ n ss ts hs.1 ht)
-
-all-with_if : (n : ℕ) (b : Bool) (s : List Open) (ss : List (List Open)) → length s ≤ n → AllAtMost n ss → AllAtMost n (with_if b s ss)
-all-with_if n true s ss h hs = (h, hs)
-all-with_if n false s ss h hs = hs
-
-all-cond : (n : ℕ) (b : Bool) (ss ts : List (List Open)) → AllAtMost n ss → AllAtMost n ts → AllAtMost n (cond b ss ts)
-all-cond n true ss ts hs ht = hs
-all-cond n false ss ts hs ht = ht
-
-pub still_open-at-most : (d : ℕ) (gs : List Open) → length (still_open d gs) ≤ length gs
-still_open-at-most d [] = omega arith
-still_open-at-most d (o ∷ gs) = cond_both (ends_at d o) (still_open d gs) (o ∷ gs) (λ s. length s ≤ suc (length gs)) (λ _. omega (arith, still_open-at-most d gs)) (λ _. omega arith)
-
-come_again-at-most : (n d : ℕ) (gs : List Open) → length gs ≤ n → AllAtMost n (come_again d gs)
-come_again-at-most n d [] h = tt
-come_again-at-most n d (o ∷ gs) h = all-cond n (ends_at d o) (with_if (may_repeat o) (repeated o ∷ gs) (come_again d gs)) [] (all-with_if n (may_repeat o) (repeated o ∷ gs) (come_again d gs) h (come_again-at-most n d gs (omega arith))) tt
-
-ahead_step : (n j : ℕ) (gs : List Open) (r : Row) (rs : List Row) → suc (length gs) ≤ n → suc (length (still_open (depth r) gs)) ≤ n → AllAtMost n (ahead (suc j) (still_open (depth r) gs) rs) → AllAtMost n (ahead j gs (r ∷ rs))
-ahead_step n j gs r rs h few later =
-    all-++ n (come_again (depth r) gs) (cond (ltb (within hs) (depth r)) rest (with_if (leb 1 r.limit) (begun j r ∷ hs) (cond (is_required r.need) [] rest))) (come_again-at-most n (depth r) gs (omega arith))
-    (all-cond n (ltb (within hs) (depth r)) rest (with_if (leb 1 r.limit) (begun j r ∷ hs) (cond (is_required r.need) [] rest)) later
-    (all-with_if n (leb 1 r.limit) (begun j r ∷ hs) (cond (is_required r.need) [] rest) few (all-cond n (is_required r.need) [] rest tt later)))
-  where
-    hs : List Open
-    hs = still_open (depth r) gs
-
-    rest : List (List Open)
-    rest = ahead (suc j) hs rs
-
-pub ahead-at-most : (n j : ℕ) (gs : List Open) (rs : List Row) → suc (length gs) ≤ n → AllAtMost n (ahead j gs rs)
-ahead-at-most n j gs [] h = tt
-ahead-at-most n j gs (r ∷ rs) h =
-    let few : suc (length (still_open (depth r) gs)) ≤ n = omega (arith, still_open-at-most (depth r) gs) in
-    ahead_step n j gs r rs h few (ahead-at-most n (suc j) (still_open (depth r) gs) rs few)
-
-pub length-state_of : (held : List Open) (k : ℕ) → length (state_of held k) ≡ k
-length-state_of held zero = refl
-length-state_of held (suc k) = ap suc (length-state_of held k)
-
-pub next-at-most : (rows : List Row) (tag : List ℕ) (s : List Open) → AtMost (suc (length s)) (next rows tag s)
-next-at-most rows tag s = lowest-at-most (suc (length s)) tag (ahead (position s) s (drop (position s) rows)) (ahead-at-most (suc (length s)) (position s) s (drop (position s) rows) (omega arith))
-
-pub found_within : (rows : List Row) (tag : List ℕ) (held : List Open) (k : ℕ) (r : Option Next) → option_map (leads_to held) r ≡ next rows tag (state_of held k) → IfSome r (λ n. n.under ≤ k)
-found_within rows tag held k None e = tt
-found_within rows tag held k (Some n) e = omega (arith, subst (AtMost (suc (length (state_of held k)))) (sym e) (next-at-most rows tag (state_of held k)), length-state_of held k, length-state_of held n.under)
-
--- what the loop of `search` keeps: with the rows that are left, it gives what is sought
+-- what the loop of `search` keeps: with the rows that are left, it gives what is sought. The check finds the lemmas on its begin and its end by itself.
 module _ (rows : List Row) (tag : List ℕ) (held : List Open) where
-  pub record Sought (number under : ℕ) (best : Option Next) : Type 0 where
-    pub few : under ≤ length held
-    pub rest : lower (option_map (leads_to held) best) (lowest tag (ahead number (state_of held under) (drop number rows))) ≡ next rows tag (state_of held (length held))
+  pub record Sought (number : ℕ) (open' : List Open) (best : Option Next) : Type 0 where
+    pub part : (ended : List Open) × (held ≡ open' ++ ended)
+    pub rest : lower (option_map (leads_to held) best) (lowest tag (ahead number (state_of open') (drop number rows))) ≡ next rows tag (state_of held)
+    pub within : IfSome best (λ n. n.under ≤ length held)
 
   abbrev Found : Option Next → Type 0
-  Found r = option_map (leads_to held) r ≡ next rows tag (state_of held (length held))
+  Found r = Finds held r (next rows tag (state_of held))
 
-  sought_nil : (number under : ℕ) (best : Option Next) → Sought number under best → drop number rows ≡ [] → Found best
-  sought_nil number under best h e = sym (lower-none (option_map (leads_to held) best)) ∙ ap (λ (rs : List Row). lower (option_map (leads_to held) best) (lowest tag (ahead number (state_of held under) rs))) (sym e) ∙ h.rest
+  found_on : (number : ℕ) (open' : List Open) (best : Option Next) → Sought number open' best → drop number rows ≡ [] → Found best
+  found_on number open' best h e = record { state = sym (lower-none (option_map (leads_to held) best)) ∙ ap (λ (rs : List Row). lower (option_map (leads_to held) best) (lowest tag (ahead number (state_of open') rs))) (sym e) ∙ h.rest; within = h.within }
 
-  pub sought_none : (number under : ℕ) (best : Option Next) → Sought number under best → None ≡ slice_get rows number → Found best
-  sought_none number under best h e = sought_nil number under best h (drop-at-none rows number e)
+  pub sought_none : (number : ℕ) (open' : List Open) (best : Option Next) → Sought number open' best → None ≡ slice_get rows number → Found best
+  sought_none number open' best h e = found_on number open' best h (elim ((slice_get_cases rows number).1) [
+    | inl (x, l, s, r) ↦ cc
+    | inr (l, s) ↦ drop_all number rows l
+  ])
 
-  pub sought_past : (number under count : ℕ) (best : Option Next) → Sought number under best → count ≡ length rows → count ≤ number → Found best
-  sought_past number under count best h e p = sought_nil number under best h (drop_all number rows (omega arith))
+  pub sought_past : (number count : ℕ) (open' : List Open) (best : Option Next) → Sought number open' best → count ≡ length rows → count ≤ number → Found best
+  sought_past number count open' best h e p = found_on number open' best h (drop_all number rows (omega arith))
 
-  pub sought_start : (number count : ℕ) (last : Option Open) → count ≡ length rows → last ≡ innermost held (length held) → number ≡ min (behind last) count → Sought number (length held) None
-  sought_start number count last ec el en = record { few = omega arith; rest = rest }
+  pub sought_start : (number count : ℕ) → count ≡ length rows → number ≡ min (position (state_of held)) count → Sought number held None
+  sought_start number count ec at = record { part = ([], sym (append-nil held)); rest = rest; within = tt }
     where
       s : List Open
-      s = state_of held (length held)
-
-      at : number ≡ min (position s) count
-      at = en ∙ ap (λ (o : Option Open). min (behind o) count) el ∙ ap (λ (n : ℕ). min n count) (innermost-behind held (length held) (omega arith))
+      s = state_of held
 
       rest : lowest tag (ahead number s (drop number rows)) ≡ lowest tag (ahead (position s) s (drop (position s) rows))
       rest = elim (cases_lt (position s) count) [
@@ -251,80 +200,117 @@ module _ (rows : List Row) (tag : List ℕ) (held : List Open) where
   abbrev Behind : ℕ → List Open → Row → List Row → List (List Open)
   Behind j hs r rs = cond (ltb (within hs) (depth r)) (ahead (suc j) hs rs) (with_if (leb 1 r.limit) (begun j r ∷ hs) (cond (is_required r.need) [] (ahead (suc j) hs rs)))
 
-  sought_closed : (number under : ℕ) (best : Option Next) (row : Row) (d under' : ℕ) (best' : Option Next) → Sought number under best → Some row ≡ slice_get rows number → d ≡ depth row → Closes held d tag under best under' best' →
-      lower (option_map (leads_to held) best') (lowest tag (Behind number (state_of held under') row (drop (number + 1) rows))) ≡ next rows tag (state_of held (length held))
-  sought_closed number under best row d under' best' h e ed k =
-      ap (λ (x : Option (List Open)). lower x (lowest tag (Behind number (state_of held under') row rs))) k.found
-      ∙ lower_assoc B (lowest tag (come_again d gs)) (lowest tag (Behind number (state_of held under') row rs))
-      ∙ ap (λ (hs : List Open). lower B (lower (lowest tag (come_again d gs)) (lowest tag (Behind number hs row rs)))) k.still
-      ∙ ap (λ (n : ℕ). lower B (lower (lowest tag (come_again n gs)) (lowest tag (Behind number (still_open n gs) row rs)))) ed
-      ∙ ap (lower B) (sym (lowest-++ tag (come_again (depth row) gs) (Behind number (still_open (depth row) gs) row rs)))
-      ∙ ap (λ (qs : List Row). lower B (lowest tag (ahead number gs qs))) (sym (drop_at_nth rows number row e))
-      ∙ h.rest
+  -- where the open rows that end before row `number` are ended
+  record Closed (number : ℕ) (row : Row) (open' : List Open) (best : Option Next) : Type 0 where
+    part : (ended : List Open) × (held ≡ open' ++ ended)
+    rest : lower (option_map (leads_to held) best) (lowest tag (Behind number (state_of open') row (drop (suc number) rows))) ≡ next rows tag (state_of held)
+    within : IfSome best (λ n. n.under ≤ length held)
+
+  closed : (number : ℕ) (outer : List Open) (best : Option Next) (row : Row) (d : ℕ) (open' : List Open) (again best' : Option Next) → Sought number outer best → Some row ≡ slice_get rows number → d ≡ depth row → Closes outer d tag open' again → best' ≡ lower_next best again → Closed number row open' best'
+  closed number outer best row d open' again best' h e ed k eb = record { part = (k.part.0 ++ h.part.0, whole); rest = rest; within = within }
     where
       rs : List Row
-      rs = drop (number + 1) rows
+      rs = drop (suc number) rows
 
       gs : List Open
-      gs = state_of held under
+      gs = state_of outer
 
       B : Option (List Open)
       B = option_map (leads_to held) best
 
-  -- past a row that stands deeper than the parts of what is still open
-  pub sought_skip : (number under : ℕ) (best : Option Next) (row : Row) (d under' : ℕ) (best' : Option Next) (inner : Option Open) (w : ℕ) → Sought number under best → Some row ≡ slice_get rows number → d ≡ depth row → Closes held d tag under best under' best' → inner ≡ innermost held under' → w ≡ parts_depth inner → w < d → Sought (number + 1) under' best'
-  sought_skip number under best row d under' best' inner w h e ed k ei ew l = record { few = few; rest = rest }
-    where
-      few : under' ≤ length held
-      few = omega (arith, k.fewer, h.few)
+      whole : held ≡ open' ++ (k.part.0 ++ h.part.0)
+      whole = h.part.1 ∙ ap (λ (xs : List Open). xs ++ h.part.0) k.part.1 ∙ append_assoc open' k.part.0 h.part.0
 
-      deeper : ltb (within (state_of held under')) (depth row) ≡ true
-      deeper = lt-ltb (within (state_of held under')) (depth row) (omega (arith, ew ∙ ap parts_depth ei ∙ innermost-within held under' few, ed, l))
+      new : option_map (leads_to held) best' ≡ lower B (lowest tag (come_again d gs))
+      new = ap (option_map (leads_to held)) eb ∙ mapped_lower held best again ∙ ap (lower B) (leads_to_part held outer h.part.0 again h.part.1 k.found.within ∙ k.found.state)
 
-      rest : lower (option_map (leads_to held) best') (lowest tag (ahead (number + 1) (state_of held under') (drop (number + 1) rows))) ≡ next rows tag (state_of held (length held))
+      rest : lower (option_map (leads_to held) best') (lowest tag (Behind number (state_of open') row rs)) ≡ next rows tag (state_of held)
       rest =
-          ap (λ (n : ℕ). lower (option_map (leads_to held) best') (lowest tag (ahead n (state_of held under') (drop (number + 1) rows)))) (add-one number)
-          ∙ ap (λ (ss : List (List Open)). lower (option_map (leads_to held) best') (lowest tag ss)) (sym (cond-true (ltb (within (state_of held under')) (depth row)) (ahead (suc number) (state_of held under') (drop (number + 1) rows)) (with_if (leb 1 row.limit) (begun number row ∷ state_of held under') (cond (is_required row.need) [] (ahead (suc number) (state_of held under') (drop (number + 1) rows)))) deeper))
-          ∙ sought_closed number under best row d under' best' h e ed k
+          ap (λ (x : Option (List Open)). lower x (lowest tag (Behind number (state_of open') row rs))) new
+          ∙ lower_assoc B (lowest tag (come_again d gs)) (lowest tag (Behind number (state_of open') row rs))
+          ∙ ap (λ (hs : List Open). lower B (lower (lowest tag (come_again d gs)) (lowest tag (Behind number hs row rs)))) k.still
+          ∙ ap (λ (n : ℕ). lower B (lower (lowest tag (come_again n gs)) (lowest tag (Behind number (still_open n gs) row rs)))) ed
+          ∙ ap (lower B) (sym (lowest-++ tag (come_again (depth row) gs) (Behind number (still_open (depth row) gs) row rs)))
+          ∙ ap (λ (qs : List Row). lower B (lowest tag (ahead number gs qs))) (sym (drop_at_nth rows number row e))
+          ∙ h.rest
 
-  sought_here : (number under : ℕ) (best : Option Next) (row : Row) (d under' : ℕ) (best' : Option Next) (inner : Option Open) (w : ℕ) (one best'' : Option Next) (q : Bool) → Sought number under best → Some row ≡ slice_get rows number → d ≡ depth row → Closes held d tag under best under' best' → inner ≡ innermost held under' → w ≡ parts_depth inner → d ≤ w → one ≡ first_if tag number row under' → best'' ≡ lower_next best' one → q ≡ is_required row.need →
-      lower (option_map (leads_to held) best'') (lowest tag (cond q [] (ahead (suc number) (state_of held under') (drop (number + 1) rows)))) ≡ next rows tag (state_of held (length held))
-  sought_here number under best row d under' best' inner w one best'' q h e ed k ei ew l e1 eb eq =
-      ap (λ (t : Bool). lower (option_map (leads_to held) best'') (lowest tag (cond t [] rest))) eq
-      ∙ ap (λ (x : Option (List Open)). lower x Y) new
-      ∙ lower_assoc (option_map (leads_to held) best') F Y
-      ∙ ap (lower (option_map (leads_to held) best')) (sym (lowest-with_if tag (leb 1 row.limit) (begun number row ∷ state_of held under') (cond (is_required row.need) [] rest)))
-      ∙ ap (λ (ss : List (List Open)). lower (option_map (leads_to held) best') (lowest tag ss)) (sym (cond-false (ltb (within (state_of held under')) (depth row)) rest (with_if (leb 1 row.limit) (begun number row ∷ state_of held under') (cond (is_required row.need) [] rest)) near))
-      ∙ sought_closed number under best row d under' best' h e ed k
+      wider : (r : Option Next) → IfSome r (λ n. n.under ≤ length outer) → IfSome r (λ n. n.under ≤ length held)
+      wider None w = tt
+      wider (Some n) w = omega (arith, ap length h.part.1, length-append outer h.part.0)
+
+      within : IfSome best' (λ n. n.under ≤ length held)
+      within = subst (λ (r : Option Next). IfSome r (λ n. n.under ≤ length held)) (sym eb) (lower-within held best again h.within (wider again k.found.within))
+
+  -- past a row that stands deeper than the parts of what is still open
+  pub sought_skip : (number : ℕ) (outer : List Open) (best : Option Next) (row : Row) (d : ℕ) (open' : List Open) (again best' : Option Next) (w : ℕ) → Sought number outer best → Some row ≡ slice_get rows number → d ≡ depth row → Closes outer d tag open' again → best' ≡ lower_next best again → w ≡ within (state_of open') → w < d → Sought (number + 1) open' best'
+  sought_skip number outer best row d open' again best' w h e ed k eb ew l = record { part = c.part; rest = rw add-one rest; within = c.within }
     where
-      rest : List (List Open)
-      rest = ahead (suc number) (state_of held under') (drop (number + 1) rows)
+      c : Closed number row open' best'
+      c = closed number outer best row d open' again best' h e ed k eb
+
+      deeper : ltb (within (state_of open')) (depth row) ≡ true
+      deeper = lt-ltb (within (state_of open')) (depth row) (omega arith)
+
+      rest : lower (option_map (leads_to held) best') (lowest tag (ahead (suc number) (state_of open') (drop (suc number) rows))) ≡ next rows tag (state_of held)
+      rest =
+          ap (λ (ss : List (List Open)). lower (option_map (leads_to held) best') (lowest tag ss)) (sym (cond-true (ltb (within (state_of open')) (depth row)) (ahead (suc number) (state_of open') (drop (suc number) rows)) (with_if (leb 1 row.limit) (begun number row ∷ state_of open') (cond (is_required row.need) [] (ahead (suc number) (state_of open') (drop (suc number) rows)))) deeper))
+          ∙ c.rest
+
+  -- at a row that may come
+  pub record Reached (number : ℕ) (row : Row) (open' : List Open) (best : Option Next) : Type 0 where
+    pub part : (ended : List Open) × (held ≡ open' ++ ended)
+    pub rest : lower (option_map (leads_to held) best) (lowest tag (cond (is_required row.need) [] (ahead (suc number) (state_of open') (drop (suc number) rows)))) ≡ next rows tag (state_of held)
+    pub within : IfSome best (λ n. n.under ≤ length held)
+
+  pub reached : (number : ℕ) (outer : List Open) (best : Option Next) (row : Row) (d : ℕ) (open' : List Open) (again best' : Option Next) (w : ℕ) (one best'' : Option Next) → Sought number outer best → Some row ≡ slice_get rows number → d ≡ depth row → Closes outer d tag open' again → best' ≡ lower_next best again → w ≡ within (state_of open') → d ≤ w → one ≡ first_if tag number row (length open') → best'' ≡ lower_next best' one → Reached number row open' best''
+  reached number outer best row d open' again best' w one best'' s e ed k ea ew l e1 eb = record { part = h.part; rest = rest; within = within' }
+    where
+      h : Closed number row open' best'
+      h = closed number outer best row d open' again best' s e ed k ea
+
+      later : List (List Open)
+      later = ahead (suc number) (state_of open') (drop (suc number) rows)
 
       Y : Option (List Open)
-      Y = lowest tag (cond (is_required row.need) [] rest)
+      Y = lowest tag (cond (is_required row.need) [] later)
 
       F : Option (List Open)
-      F = cond (leb 1 row.limit) (of_tag tag (begun number row ∷ state_of held under')) None
+      F = cond (leb 1 row.limit) (of_tag tag (begun number row ∷ state_of open')) None
 
-      near : ltb (within (state_of held under')) (depth row) ≡ false
-      near = le-ltb (within (state_of held under')) (depth row) (omega (arith, ew ∙ ap parts_depth ei ∙ innermost-within held under' (omega (arith, k.fewer, h.few)), ed, l))
+      near : ltb (within (state_of open')) (depth row) ≡ false
+      near = le-ltb (within (state_of open')) (depth row) (omega arith)
+
+      mine : option_map (leads_to held) one ≡ F
+      mine = ap (option_map (leads_to held)) e1 ∙ mapped_first held tag number row (length open') ∙ ap (λ (xs : List Open). cond (leb 1 row.limit) (of_tag tag (begun number row ∷ state_of xs)) None) (ap (take (length open')) h.part.1 ∙ take-append_seam open' h.part.0)
 
       new : option_map (leads_to held) best'' ≡ lower (option_map (leads_to held) best') F
-      new = ap (option_map (leads_to held)) eb ∙ mapped_lower held best' one ∙ ap (λ (x : Option Next). lower (option_map (leads_to held) best') (option_map (leads_to held) x)) e1 ∙ ap (lower (option_map (leads_to held) best')) (mapped_first held tag number row under')
+      new = ap (option_map (leads_to held)) eb ∙ mapped_lower held best' one ∙ ap (lower (option_map (leads_to held) best')) mine
+
+      rest : lower (option_map (leads_to held) best'') Y ≡ next rows tag (state_of held)
+      rest =
+          ap (λ (x : Option (List Open)). lower x Y) new
+          ∙ lower_assoc (option_map (leads_to held) best') F Y
+          ∙ ap (lower (option_map (leads_to held) best')) (sym (lowest-with_if tag (leb 1 row.limit) (begun number row ∷ state_of open') (cond (is_required row.need) [] later)))
+          ∙ ap (λ (ss : List (List Open)). lower (option_map (leads_to held) best') (lowest tag ss)) (sym (cond-false (ltb (within (state_of open')) (depth row)) later (with_if (leb 1 row.limit) (begun number row ∷ state_of open') (cond (is_required row.need) [] later)) near))
+          ∙ h.rest
+
+      within' : IfSome best'' (λ n. n.under ≤ length held)
+      within' = subst (λ (r : Option Next). IfSome r (λ n. n.under ≤ length held)) (sym eb) (lower-within held best' one h.within (subst (λ (r : Option Next). IfSome r (λ n. n.under ≤ length held)) (sym e1) (if-within (leb 1 row.limit && has_tag tag row) held (record { opened = begun number row; under = length open' }) (omega (arith, ap length h.part.1, length-append open' h.part.0)))))
 
   -- past a row that may come and may be left out
-  pub sought_on : (number under : ℕ) (best : Option Next) (row : Row) (d under' : ℕ) (best' : Option Next) (inner : Option Open) (w : ℕ) (one best'' : Option Next) (q : Bool) → Sought number under best → Some row ≡ slice_get rows number → d ≡ depth row → Closes held d tag under best under' best' → inner ≡ innermost held under' → w ≡ parts_depth inner → d ≤ w → one ≡ first_if tag number row under' → best'' ≡ lower_next best' one → q ≡ is_required row.need → q ≡ false → Sought (number + 1) under' best''
-  sought_on number under best row d under' best' inner w one best'' q h e ed k ei ew l e1 eb eq f = record {
-    few = omega (arith, k.fewer, h.few);
-    rest =
-        ap (λ (n : ℕ). lower (option_map (leads_to held) best'') (lowest tag (ahead n (state_of held under') (drop (number + 1) rows)))) (add-one number)
-        ∙ ap (λ (t : Bool). lower (option_map (leads_to held) best'') (lowest tag (cond t [] (ahead (suc number) (state_of held under') (drop (number + 1) rows))))) (sym f)
-        ∙ sought_here number under best row d under' best' inner w one best'' q h e ed k ei ew l e1 eb eq;
+  pub sought_on : (number : ℕ) (open' : List Open) (best : Option Next) (row : Row) (q : Bool) → Reached number row open' best → q ≡ is_required row.need → q ≡ false → Sought (number + 1) open' best
+  sought_on number open' best row q h eq f = record {
+    part = h.part;
+    rest = rw add-one (ap (λ (t : Bool). lower (option_map (leads_to held) best) (lowest tag (cond t [] (ahead (suc number) (state_of open') (drop (suc number) rows))))) (sym (sym eq ∙ f)) ∙ h.rest);
+    within = h.within;
   }
 
   -- a required row ends the search
-  pub sought_stop : (number under : ℕ) (best : Option Next) (row : Row) (d under' : ℕ) (best' : Option Next) (inner : Option Open) (w : ℕ) (one best'' : Option Next) (q : Bool) → Sought number under best → Some row ≡ slice_get rows number → d ≡ depth row → Closes held d tag under best under' best' → inner ≡ innermost held under' → w ≡ parts_depth inner → d ≤ w → one ≡ first_if tag number row under' → best'' ≡ lower_next best' one → q ≡ is_required row.need → q ≡ true → Found best''
-  sought_stop number under best row d under' best' inner w one best'' q h e ed k ei ew l e1 eb eq t =
-      sym (lower-none (option_map (leads_to held) best''))
-      ∙ ap (λ (t : Bool). lower (option_map (leads_to held) best'') (lowest tag (cond t [] (ahead (suc number) (state_of held under') (drop (number + 1) rows))))) (sym t)
-      ∙ sought_here number under best row d under' best' inner w one best'' q h e ed k ei ew l e1 eb eq
+  pub sought_stop : (number : ℕ) (open' : List Open) (best : Option Next) (row : Row) (q : Bool) → Reached number row open' best → q ≡ is_required row.need → q ≡ true → Found best
+  sought_stop number open' best row q h eq t = record {
+    state =
+        sym (lower-none (option_map (leads_to held) best))
+        ∙ ap (λ (t : Bool). lower (option_map (leads_to held) best) (lowest tag (cond t [] (ahead (suc number) (state_of open') (drop (suc number) rows))))) (sym (sym eq ∙ t))
+        ∙ h.rest;
+    within = h.within;
+  }

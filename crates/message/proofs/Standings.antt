@@ -132,7 +132,7 @@ tag_cases tag (o ∷ gs) = at (has_tag tag o.row)
     at false = inl refl
 
 none-some : {t : List Open} → None ≡ Some t → ⊥
-none-some e = let z : ◌≡◌ {A = ℕ} 0 1 = cc in omega arith
+none-some e = cc
 
 lowest_cons : (tag : List ℕ) (s : List Open) (ts : List (List Open)) (a b : Option (List Open)) → (a ≡ None) ⊎ (a ≡ Some s) → of_tag tag s ≡ a → LowestAmong tag ts b → LowestAmong tag (s ∷ ts) (lower a b)
 unfolding LowestAmong
@@ -180,7 +180,7 @@ is_tagged tag o gs e = at (has_tag tag o.row) ((bytes_eq-Decides o.row.tag tag).
   where
     at : (b : Bool) → b ≡ true → cond b (Some (o ∷ gs)) None ≡ Some (o ∷ gs)
     at true h = refl
-    at false h = let z : ◌≡◌ {A = ℕ} 0 1 = cc in absurd (omega arith)
+    at false h = cc
 
 -- What is answered to a tag
 
@@ -217,10 +217,3 @@ module _ (rows : List Row) (K : RowRules rows) where
         },
         moved h k.member,
       )
-
-  -- what is found is a state of an open row
-  pub next-some : (s : List Open) (tag : List ℕ) (t : List Open) → next rows tag s ≡ Some t → (o : Open) × (gs : List Open) × (t ≡ o ∷ gs)
-  unfolding LowestAmong
-  next-some s tag t e =
-      let k : LowestIn tag (next_states rows s) t = subst (LowestAmong tag (next_states rows s)) e (lowest-among tag (next_states rows s)) in
-      ahead-some rows K (step rows K {s = s} k.member)

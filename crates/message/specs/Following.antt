@@ -2,11 +2,10 @@
 -- after a row that has occurred once, as have the triggers of the groups it stands in.
 use Rattle.std.specs.Prelude.{ℕ, suc, ◌+◌, Bool, true, cond, not, ◌&&◌, ◌||◌, leb, List, [], ◌∷◌, ◌++◌, ◌==◌, nat_le, nat_lt}
 use Rattle.std.specs.Str.{bytes_eq}
-use Rattle.message.specs.declared.row.Kind.{Kind}
-use Rattle.message.specs.declared.row.Kind.TheVariants.{Trigger, Plain}
 use Rattle.message.specs.declared.row.Row.{Row}
 use Rattle.message.specs.Layouts.{all}
 use Rattle.message.specs.RowTests.{is_plain, is_required}
+use Rattle.message.specs.Walk.{depth, with_if}
 
 -- a row with its number
 pub record Numbered : Type 0 where
@@ -15,14 +14,6 @@ pub record Numbered : Type 0 where
 
 abbrev pub numbered : ℕ → Row → Numbered
 numbered i r = record { number = i; row = r }
-
-abbrev pub depth_of : Kind → ℕ → ℕ
-depth_of Trigger level = level
-depth_of Plain level = suc level
-
--- how deep a row stands as a part of its surroundings: a plain row of level l is a part of level l, a trigger of level l + 1 begins one
-abbrev pub depth : Row → ℕ
-depth r = depth_of r.kind r.level
 
 -- the depth of the parts of the innermost open group, or of the message
 abbrev pub within : List Numbered → ℕ
@@ -33,9 +24,6 @@ within (g ∷ gs) = suc (depth g.row)
 abbrev pub still_open : ℕ → List Numbered → List Numbered
 still_open d [] = []
 still_open d (g ∷ gs) = cond (nat_lt (depth g.row) d) (g ∷ gs) (still_open d gs)
-
-abbrev pub with_if : Bool → Numbered → List Numbered → List Numbered
-with_if b x xs = cond b (x ∷ xs) xs
 
 -- those that end before such a row, and may begin again
 abbrev pub begin_again : ℕ → List Numbered → List Numbered

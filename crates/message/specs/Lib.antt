@@ -7,6 +7,7 @@ pub mod WalkLaws
 pub mod Searching
 pub mod Walking
 pub mod Layouts
+pub mod Notation
 pub mod Faults
 pub mod Judging
 pub mod Messages

@@ -1,24 +1,18 @@
--- The state of a walk as a table of open rows, and the search for the next row over it.
-use Rattle.std.specs.Prelude.{◌≡◌, ℕ, zero, suc, ◌+◌, ◌-◌, ◌≤◌, cond, ◌&&◌, List, [], ◌∷◌, length, Some, None, Option, nat_le, nat_lt, slice_index_or}
+-- The search for the next row over a table of open rows, the innermost last.
+use Rattle.std.specs.Prelude.{◌≡◌, ℕ, ◌≤◌, cond, ◌&&◌, List, ◌∷◌, ◌++◌, length, take, reverse, IfSome, Some, None, Option, nat_le, nat_lt}
 use Rattle.std.specs.Option.{option_map}
 use Rattle.message.specs.declared.row.Row.{Row}
 use Rattle.message.specs.declared.open.Open.{Open}
 use Rattle.message.specs.declared.open.Next.{Next}
-use Rattle.message.specs.Rows.{past_last}
-use Rattle.message.specs.Walk.{depth, begun, repeated, may_repeat, has_tag, still_open, come_again, lower, lowest}
+use Rattle.message.specs.Walk.{begun, repeated, may_repeat, has_tag, still_open, come_again, lowest}
 
--- what is read past the last open row
-abbrev pub no_open : Open
-no_open = record { number = 0; occurrence = 0; row = past_last }
-
--- the state that the first k entries of a table are: the last of them came last
-abbrev pub state_of : List Open → ℕ → List Open
-state_of xs zero = []
-state_of xs (suc k) = slice_index_or xs k no_open ∷ state_of xs k
+-- the state that a table is: the last of its rows came last
+abbrev pub state_of : List Open → List Open
+state_of held = reverse held
 
 -- the state that a next row leads to
 abbrev pub leads_to : List Open → Next → List Open
-leads_to held n = n.opened ∷ state_of held n.under
+leads_to held n = n.opened ∷ state_of (take n.under held)
 
 -- the next occurrence of an open row, if it may repeat and has the tag
 abbrev pub again_if : List ℕ → Open → ℕ → Option Next
@@ -34,27 +28,17 @@ lower_next None b = b
 lower_next (Some m) None = Some m
 lower_next (Some m) (Some n) = cond (nat_lt n.opened.number m.opened.number) (Some n) (Some m)
 
--- the innermost of the first k open rows of a table
-abbrev pub innermost : List Open → ℕ → Option Open
-innermost held k = cond (nat_le 1 k && nat_le k (length held)) (Some (slice_index_or held (k - 1) no_open)) None
+-- a next row, which stands in rows that are open, leads to the state s; or there is neither
+pub record Finds (held : List Open) (found : Option Next) (s : Option (List Open)) : Type 0 where
+  pub state : option_map (leads_to held) found ≡ s
+  pub within : IfSome found (λ n. n.under ≤ length held)
 
--- the depth of the parts of an open row, or of the message
-abbrev pub parts_depth : Option Open → ℕ
-parts_depth None = 1
-parts_depth (Some o) = suc (depth o.row)
+-- the open rows that end before a row of depth d are ended, and the lowest of those of them that may come again is found
+pub record Closes (held : List Open) (d : ℕ) (tag : List ℕ) (open' : List Open) (again : Option Next) : Type 0 where
+  pub part : (ended : List Open) × (held ≡ open' ++ ended)
+  pub still : state_of open' ≡ still_open d (state_of held)
+  pub found : Finds held again (lowest tag (come_again d (state_of held)))
 
--- the row behind the one that came last
-abbrev pub behind : Option Open → ℕ
-behind None = 0
-behind (Some o) = o.number + 1
-
--- the open rows that end before a row of depth d are ended, and those of them that may come again are found
-pub record Closes (held : List Open) (d : ℕ) (tag : List ℕ) (under : ℕ) (best : Option Next) (under' : ℕ) (best' : Option Next) : Type 0 where
-  pub fewer : under' ≤ under
-  pub still : state_of held under' ≡ still_open d (state_of held under)
-  pub found : option_map (leads_to held) best' ≡ lower (option_map (leads_to held) best) (lowest tag (come_again d (state_of held under)))
-
--- the number and the occurrence of a row that comes next
-abbrev pub answer_of : Option Next → Option (ℕ × ℕ)
-answer_of None = None
-answer_of (Some n) = Some (n.opened.number, n.opened.occurrence)
+-- what is answered where this row comes next
+abbrev pub answer_of : Next → ℕ × ℕ
+answer_of n = (n.opened.number, n.opened.occurrence)

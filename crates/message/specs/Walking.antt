@@ -14,7 +14,7 @@ seats_of (Some a) = a.0 # a.1 ∷ []
 module _ {D : Type 0} (rows_of : D → List Row) where
   -- the rows w, each with its occurrence, have come on this walk
   abbrev pub StandsAfter : Walk D → List Seat → Type 0
-  StandsAfter k w = Stands (rows_of k.diagram.now) (state_of k.held k.count) w
+  StandsAfter k w = Stands (rows_of k.diagram.now) (state_of k.held.items) w
 
   -- the answer to a tag
   unfoldable pub Asks : Walk D → List ℕ → Option (ℕ × ℕ) → Type 0

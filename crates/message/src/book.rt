@@ -23,7 +23,7 @@ pub trait Diagram {
 }
 
 // A book: a diagram that also tells each row's layout, the codes in it, and the five parts of the message's identifier.
-// Everything counts from 0 here.
+// Everything counts from 0 here, and is told by its number: a rule of the project.
 pub trait Book: Diagram {
     ghost layouts: { Self → List Layout };
 

@@ -1,7 +1,10 @@
 // What a row's layout asks of a segment's elements and components.
-ghost use Rattle.std.specs.Prelude.{◌≡◌};
+ghost use Rattle.std.specs.Prelude.{◌≡◌, Some};
 ghost use Rattle.message.specs.Faults.{number_of, spot_of};
 ghost use Rattle.message.specs.Layouts.{status_of};
+ghost use Rattle.message.specs.Notation.{class_text, extent_text};
+
+use std::fmt;
 
 // What the characters of a component may be: letters and spaces, a number, or any.
 #[derive(Clone, Copy, PartialEq, Eq, Debug, Drop)]
@@ -11,11 +14,35 @@ pub enum Class {
     Alphanumeric,
 }
 
+impl fmt::Display for Class {
+    ghost output = { λ class. Some (class_text class) };
+
+    fn fmt<W: fmt::Write>(&self, f: &mut fmt::Formatter<W>) -> fmt::Result {
+        f.write_str(match self {
+            Class::Alphabetic => "a",
+            Class::Numeric => "n",
+            Class::Alphanumeric => "an",
+        })
+    }
+}
+
 // How many characters a component has; of a number, how many digits.
 #[derive(Clone, Copy, PartialEq, Eq, Debug, Drop)]
 pub enum Extent {
     Exactly(u16),
     AtMost(u16),
+}
+
+// As EDIFACT writes it behind the class: an3 is exactly three characters, an..35 at most 35.
+impl fmt::Display for Extent {
+    ghost output = { λ extent. Some (extent_text extent) };
+
+    fn fmt<W: fmt::Write>(&self, f: &mut fmt::Formatter<W>) -> fmt::Result {
+        match self {
+            Extent::Exactly(length) => write!(f, "{length}"),
+            Extent::AtMost(length) => write!(f, "..{length}"),
+        }
+    }
 }
 
 // What a status letter means.
@@ -27,13 +54,14 @@ pub enum Status {
 }
 
 // What a book tells of an element: its status letter, and how many components it has.
+// A status is told as its letter: a rule of the project.
 #[derive(Clone, Copy, PartialEq, Eq, Debug, Drop)]
 pub struct ElementRule {
     pub status: char,
     pub components: usize,
 }
 
-// What a book tells of a component, with how many codes its list has: 0 where there is none.
+// What a book tells of a component, with how many codes its list has. No Option: a list without codes binds nothing, as none does.
 #[derive(Clone, Copy, PartialEq, Eq, Debug, Drop)]
 pub struct ComponentRule {
     pub class: Class,
@@ -49,7 +77,7 @@ pub struct Spot {
     pub component: usize,
 }
 
-// Why a segment doesn't fit its row.
+// Why a segment doesn't fit its row. Each case has its spot and its number: a rule of the project.
 #[derive(Clone, Copy, PartialEq, Eq, Debug, Drop)]
 pub enum SegmentFault {
     Beyond(Spot),
@@ -97,6 +125,7 @@ impl SegmentFault {
 }
 
 // The status that a letter means, if it is one.
+// No TryFrom: that the letter is a parameter is a rule of the project.
 pub fn status_of(letter: char) -> Option<Status>
     ensures { result ≡ status_of letter }
 {

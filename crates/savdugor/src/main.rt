@@ -1,12 +1,14 @@
 // The program: cuts texts and lists what it found, and lists the built-in books.
 #![tactic(auto)]
 
-use anyhow::anyhow;
-use books::recadv::Recadv;
-use books::trial::TrialBook;
+use anyhow::{anyhow, ensure};
+use booklist::form::{BookForm, push_book};
+use books::{recadv, trial};
 use listing::command::{Detail, Format, Request, USAGE, Which, parse};
-use listing::{person, plain};
-use message::book::Book;
+use listing::page::Page;
+use listing::person::Person;
+use listing::plain::Plain;
+use listing::text::{TextForm, push_text};
 use std::io::{Read, Write};
 use std::{env, fs, io};
 
@@ -22,7 +24,7 @@ fn read_text(rt: &HostRuntime, name: &str) -> io::Result<Vec<u8>> {
 }
 
 // Lists one text; answers whether it was cut throughout.
-fn list(rt: &HostRuntime, format: Format, name: &str) -> anyhow::Result<bool> {
+fn list<F: TextForm>(rt: &HostRuntime, name: &str) -> anyhow::Result<bool> {
     let text = match read_text(rt, name) {
         Ok(text) => text,
         Err(why) => {
@@ -30,17 +32,12 @@ fn list(rt: &HostRuntime, format: Format, name: &str) -> anyhow::Result<bool> {
             return Ok(false);
         }
     };
-    let heap = rt.alloc();
-    let mut out = Vec::new(heap);
-    let fault = match format {
-        Format::Plain => plain::push_text(heap, &mut out, name, text.as_slice())?,
-        Format::Person => person::push_text(heap, &mut out, name, text.as_slice())?,
-    };
-    rt.stdout().write_all(out.as_slice())?;
+    let mut page = Page::new(rt.alloc());
+    let fault = push_text::<F>(&mut page, name, text.as_slice())?;
+    rt.stdout().write_all(page.as_slice())?;
     match fault {
         Some(fault) => {
-            let why = person::describe(heap, fault)?;
-            eprintln!(rt; "savdugor: {name} is stopped at {why}")?;
+            eprintln!(rt; "savdugor: {name} is stopped at {fault}")?;
             Ok(false)
         }
         None => Ok(true),
@@ -48,37 +45,28 @@ fn list(rt: &HostRuntime, format: Format, name: &str) -> anyhow::Result<bool> {
 }
 
 // Lists all texts, and ends in an error if one wasn't cut throughout.
-fn list_all(rt: &HostRuntime, format: Format, names: Vec<String>) -> anyhow::Result<()> {
+fn list_all<F: TextForm>(rt: &HostRuntime, names: Vec<String>) -> anyhow::Result<()> {
+    // a flag: no other value stands beside it
     let mut good = true;
     if names.is_empty() {
-        good = list(rt, format, "-")?;
+        good = list::<F>(rt, "-")?;
     }
     for name in names {
-        if !list(rt, format, name.as_str())? {
-            good = false;
-        }
+        good &= list::<F>(rt, name.as_str())?;
     }
-    if good {
-        Ok(())
-    } else {
-        Err(anyhow!("not every text was cut throughout"))
-    }
+    ensure!(good, "not every text was cut throughout");
+    Ok(())
 }
 
-// Lists one book.
-fn list_book<B: Book>(
-    rt: &HostRuntime,
-    book: &B,
-    detail: Detail,
-    format: Format,
-) -> anyhow::Result<()> {
-    let heap = rt.alloc();
-    let mut out = Vec::new(heap);
-    match format {
-        Format::Plain => booklist::plain::push_book(heap, &mut out, book, detail)?,
-        Format::Person => booklist::person::push_book(heap, &mut out, book, detail)?,
-    }
-    rt.stdout().write_all(out.as_slice())?;
+// Lists the book that is asked.
+fn list_book<F: BookForm>(rt: &HostRuntime, which: Which, detail: Detail) -> anyhow::Result<()> {
+    let book = match which {
+        Which::Recadv => recadv::book(),
+        Which::Trial => trial::book(),
+    };
+    let mut page = Page::new(rt.alloc());
+    push_book::<F, _>(&mut page, &book, detail)?;
+    rt.stdout().write_all(page.as_slice())?;
     Ok(())
 }
 
@@ -88,9 +76,10 @@ fn main(rt: HostRuntime) -> anyhow::Result<()> {
         words.push(word)?;
     }
     match parse(rt.alloc(), words)? {
-        Request::Cut(format, names) => list_all(&rt, format, names),
-        Request::Book(Which::Recadv, detail, format) => list_book(&rt, &Recadv, detail, format),
-        Request::Book(Which::Trial, detail, format) => list_book(&rt, &TrialBook, detail, format),
+        Request::Cut(Format::Plain, names) => list_all::<Plain>(&rt, names),
+        Request::Cut(Format::Person, names) => list_all::<Person>(&rt, names),
+        Request::Book(which, detail, Format::Plain) => list_book::<Plain>(&rt, which, detail),
+        Request::Book(which, detail, Format::Person) => list_book::<Person>(&rt, which, detail),
         Request::Help => {
             print!(rt; "{USAGE}")?;
             Ok(())

@@ -5,16 +5,6 @@ use Rattle.std.proofs.lemmas.Bool.{and_from, and_parts, eq-eqb, le-leb, leb-true
 use Rattle.syntax.specs.declared.marks.Marks.{Marks}
 use Rattle.syntax.specs.Marks.{has_header, header_length, marks_in, marks_of, body, usual}
 
-pub header_read : (text : List ℕ) (m : Marks) → has_header text ≡ true → 9 ≤ length text → get_or text 7 0 ≡ 32 →
-    marks_in (get_or text 3 0) (get_or text 4 0) (get_or text 5 0) (get_or text 6 0) (get_or text 8 0) ≡ Some m →
-    (marks_of text ≡ Some m) × (take (length text - 9) (drop 9 text) ≡ body text)
-header_read text m h l s e =
-    let found : Option Marks = marks_in (get_or text 3 0) (get_or text 4 0) (get_or text 5 0) (get_or text 6 0) (get_or text 8 0) in
-    let long : (leb 9 (length text) && eqb (get_or text 7 0) 32) ≡ true = and_from (leb 9 (length text)) (eqb (get_or text 7 0) 32) (le-leb 9 (length text) l) (eq-eqb (get_or text 7 0) 32 s) in (
-      ap (λ t. cond t (cond (leb 9 (length text) && eqb (get_or text 7 0) 32) found None) (Some usual)) h ∙ ap (λ t. cond t found None) long ∙ e,
-      take_rest text 9 ∙ sym (ap (λ t. drop (cond t 9 0) text) h),
-    )
-
 -- a text whose header is lawful has it whole
 pub header-whole : (text : List ℕ) (m : Marks) → marks_of text ≡ Some m → header_length text ≤ length text
 header-whole text m e =

@@ -1,4 +1,3 @@
 pub mod Splits
-pub mod CharacterSteps
 pub mod Lawfulness
 pub mod Headers

@@ -1,18 +1,20 @@
 -- What the cursors over bytes have still to tell, and the character with which bytes begin.
-use Rattle.std.specs.Prelude.{◌≡◌, ℕ, false, cond, List, [], ◌∷◌, length, Some, None, Option, ◌==◌, nat_lt, slice_index}
+use Rattle.std.specs.Prelude.{ℕ, false, cond, List, [], length, Some, None, Option, ◌==◌, nat_lt, slice_index}
+use Rattle.std.specs.Option.{option_map}
 use Rattle.syntax.specs.declared.characters.Characters.{Characters}
 use Rattle.syntax.specs.declared.characters.FoundCharacter.{FoundCharacter}
+use Rattle.syntax.specs.declared.pieces.Divider.{Divider}
 use Rattle.syntax.specs.declared.pieces.Pieces.{Pieces}
 use Rattle.syntax.specs.Split.{split, characters}
 
--- one step of a cursor: the first of what was left, or that nothing was
-abbrev pub Takes : {X : Type 0} → (before : List X) → Option X → (after : List X) → Type 0
-Takes before None after = (before ≡ []) × (after ≡ [])
-Takes before (Some x) after = before ≡ x ∷ after
+-- the pieces of bytes that are still to come, or none behind the last
+abbrev pub pieces_in : Divider → Option (List ℕ) → List (List ℕ)
+pieces_in d None = []
+pieces_in d (Some bs) = split d.release d.mark false bs
 
 -- the pieces that are still to come
 abbrev pub pieces_left : Pieces → List (List ℕ)
-pieces_left c = cond c.more (split c.release c.mark false c.rest.now) []
+pieces_left c = pieces_in c.divider (option_map (λ x. x.now) c.rest)
 
 -- the characters that are still to come
 abbrev pub characters_left : Characters → List ℕ

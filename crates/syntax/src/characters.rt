@@ -3,10 +3,8 @@ ghost use Rattle.std.specs.Prelude.{◌≡◌, ◌≤◌, false, length as size,
 ghost use Rattle.std.specs.Str.{bytes_eq};
 ghost use Rattle.syntax.specs.Split.{characters as characters_in};
 ghost use Rattle.syntax.specs.Cursors.{character_in};
-ghost use Rattle.syntax.specs.Cursors.{Takes, characters_left};
-ghost use Rattle.std.specs.Iterator.{at_most};
-
-use crate::bytes::is_release;
+ghost use Rattle.syntax.specs.Cursors.{characters_left};
+ghost use Rattle.std.specs.Iterator.{YieldsFirst, item_count};
 
 // A character, and how many bytes of the text it takes.
 #[derive(Clone, Copy, Drop)]
@@ -20,22 +18,17 @@ fn first_character(bytes: &[u8], release: u8) -> Option<FoundCharacter>
     ensures value { result ≡ character_in release bytes.now }
     ensures within { IfSome result (λ x. x.length ≤ size bytes.now) }
 {
-    if bytes.len() == 0 {
-        return None;
-    }
-    if bytes[0] != release {
-        return Some(FoundCharacter {
-            character: bytes[0],
+    match bytes {
+        [mark, released, ..] if *mark == release => Some(FoundCharacter {
+            character: *released,
+            length: 2,
+        }),
+        [character, ..] if *character != release => Some(FoundCharacter {
+            character: *character,
             length: 1,
-        });
+        }),
+        _ => None,
     }
-    if bytes.len() < 2 {
-        return None;
-    }
-    Some(FoundCharacter {
-        character: bytes[1],
-        length: 2,
-    })
 }
 
 // The characters that are still to come.
@@ -59,55 +52,35 @@ impl<'t> Characters<'t> {
 impl<'t> Iterator for Characters<'t> {
     type Item = u8;
 
-    ghost next_gives = { λ s r t. Takes (characters_left s) r (characters_left t) };
+    ghost next_gives = { YieldsFirst characters_left };
 
-    ghost remaining = { λ s. at_most (size (characters_left s)) };
+    ghost remaining = { item_count characters_left };
 
     fn next(&mut self) -> Option<u8> {
-        let rest = self.rest;
-        match first_character(rest, self.release) {
-            Some(found) => {
-                let (_, behind) = rest.split_at(found.length);
-                self.rest = behind;
-                Some(found.character)
-            }
-            None => None,
-        }
+        let found = first_character(self.rest, self.release)?;
+        let (_, behind) = self.rest.split_at(found.length);
+        self.rest = behind;
+        Some(found.character)
     }
 }
 
-// How many characters `bytes` has.
+// How many characters `bytes` has. It and the next take what `Characters::of` takes, and stay functions: they are thin over it.
 pub fn character_count(bytes: &[u8], release: u8) -> usize
     ensures { result ≡ size (characters_in release false bytes.now) }
 {
-    let mut count = 0;
-    let mut protected = false;
-    for b in bytes {
-        protected = is_release(*b, release, protected);
-        if !protected {
-            count += 1;
-        }
-    }
-    count
+    Characters::of(bytes, release).count()
 }
 
 // Whether the characters of `bytes` are those of `plain`.
 pub fn same_characters(bytes: &[u8], release: u8, plain: &[u8]) -> bool
     ensures { result ≡ bytes_eq (characters_in release false bytes.now) plain.now }
 {
+    // a loop: `eq` over the two iterators leaves a goal
     let mut characters = Characters::of(bytes, release);
     for p in plain {
-        match characters.next() {
-            Some(c) => {
-                if c != *p {
-                    return false;
-                }
-            }
-            None => return false,
+        if characters.next() != Some(*p) {
+            return false;
         }
     }
-    match characters.next() {
-        Some(_) => false,
-        None => true,
-    }
+    characters.next().is_none()
 }

@@ -19,9 +19,6 @@ pub fn read_header(text: &[u8]) -> Result<(Marks, &[u8]), CutFault>
         (λ h. (marks_of text.now ≡ Some h.0) × (h.1.now ≡ body text.now))
         (λ f. (marks_of text.now ≡ None) × (f ≡ BadHeader)) }
 {
-    if !has_header(text) {
-        return Ok((Marks::usual(), text));
-    }
     match text {
         [
             b'U',
@@ -35,11 +32,10 @@ pub fn read_header(text: &[u8]) -> Result<(Marks, &[u8]), CutFault>
             terminator,
             rest @ ..,
         ] => {
-            match Marks::from_bytes(*component, *element, *decimal, *release, *terminator) {
-                Some(marks) => Ok((marks, rest)),
-                None => Err(CutFault::BadHeader),
-            }
+            let marks = Marks::try_from([*component, *element, *decimal, *release, *terminator])?;
+            Ok((marks, rest))
         }
-        _ => Err(CutFault::BadHeader),
+        _ if has_header(text) => Err(CutFault::BadHeader),
+        _ => Ok((Marks::usual(), text)),
     }
 }

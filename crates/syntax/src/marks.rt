@@ -1,8 +1,10 @@
 // The marks of a text.
-ghost use Rattle.std.specs.Prelude.{◌≡◌};
+ghost use Rattle.std.specs.Prelude.{◌≡◌, slice_index};
+ghost use Rattle.std.specs.Result.{result_ok};
 ghost use Rattle.syntax.specs.Marks.{decimal_of, decimal_byte, differs, lawful, marks_in, usual};
 
 use crate::bytes::is_markable;
+use crate::pieces::Divider;
 
 // The mark between the whole and the decimal digits of a number.
 #[derive(Clone, Copy, PartialEq, Eq, Debug, Drop)]
@@ -21,23 +23,30 @@ pub struct Marks {
     pub terminator: u8,
 }
 
-impl DecimalMark {
-    // The decimal mark that `b` is.
-    pub fn from_byte(b: u8) -> Option<DecimalMark>
-        ensures { result ≡ decimal_of b }
-    {
+// Bytes that can't be the marks of a text.
+#[derive(Clone, Copy, PartialEq, Eq, Debug, Drop)]
+pub struct BadMarks;
+
+impl TryFrom<u8> for DecimalMark {
+    type Error = BadMarks;
+
+    ghost try_from_gives = { λ b r. result_ok r ≡ decimal_of b };
+
+    fn try_from(b: u8) -> Result<DecimalMark, BadMarks> {
         match b {
-            b'.' => Some(DecimalMark::Point),
-            b',' => Some(DecimalMark::Comma),
-            _ => None,
+            b'.' => Ok(DecimalMark::Point),
+            b',' => Ok(DecimalMark::Comma),
+            _ => Err(BadMarks),
         }
     }
+}
 
-    // The byte that a text has for it.
-    pub fn byte(self) -> u8
-        ensures { result ≡ decimal_byte self }
-    {
-        match self {
+// The byte that a text has for it.
+impl From<DecimalMark> for u8 {
+    ghost from_gives = { λ d b. b ≡ decimal_byte d };
+
+    fn from(mark: DecimalMark) -> u8 {
+        match mark {
             DecimalMark::Point => b'.',
             DecimalMark::Comma => b',',
         }
@@ -45,10 +54,10 @@ impl DecimalMark {
 }
 
 // Whether `b` is none of the others.
-fn is_other(b: u8, w: u8, x: u8, y: u8, z: u8) -> bool
-    ensures { result ≡ differs b w x y z }
+fn is_other(b: u8, others: [u8; 4]) -> bool
+    ensures { result ≡ differs b (slice_index others 0) (slice_index others 1) (slice_index others 2) (slice_index others 3) }
 {
-    b != w && b != x && b != y && b != z
+    !others.contains(&b)
 }
 
 impl Marks {
@@ -70,37 +79,63 @@ impl Marks {
         ensures { result ≡ lawful self.now }
     {
         let (c, e, r, t) = (self.component, self.element, self.release, self.terminator);
-        let d = self.decimal.byte();
+        let d = u8::from(self.decimal);
         (is_markable(c) && is_markable(e) && is_markable(r) && is_markable(t))
-            && (is_other(c, e, d, r, t)
-                && (is_other(e, c, d, r, t)
-                    && (is_other(r, c, e, d, t) && is_other(t, c, e, d, r))))
+            && (is_other(c, [e, d, r, t])
+                && (is_other(e, [c, d, r, t])
+                    && (is_other(r, [c, e, d, t]) && is_other(t, [c, e, d, r]))))
     }
 
-    // The marks that five bytes are, if they are lawful.
-    pub fn from_bytes(
-        component: u8,
-        element: u8,
-        decimal: u8,
-        release: u8,
-        terminator: u8,
-    ) -> Option<Marks>
-        ensures { result ≡ marks_in component element decimal release terminator }
+    // What divides a text into segments.
+    pub fn segments(&self) -> Divider
+        ensures { result ≡ record { release = self.now.release; mark = self.now.terminator } }
     {
-        let Some(decimal) = DecimalMark::from_byte(decimal) else {
-            return None;
-        };
+        Divider {
+            release: self.release,
+            mark: self.terminator,
+        }
+    }
+
+    // What divides a segment into elements.
+    pub fn elements(&self) -> Divider
+        ensures { result ≡ record { release = self.now.release; mark = self.now.element } }
+    {
+        Divider {
+            release: self.release,
+            mark: self.element,
+        }
+    }
+
+    // What divides an element into components.
+    pub fn components(&self) -> Divider
+        ensures { result ≡ record { release = self.now.release; mark = self.now.component } }
+    {
+        Divider {
+            release: self.release,
+            mark: self.component,
+        }
+    }
+}
+
+// The marks that the bytes of a header are, in its order, if they are lawful.
+impl TryFrom<[u8; 5]> for Marks {
+    type Error = BadMarks;
+
+    ghost try_from_gives = { λ bs r. result_ok r ≡ marks_in (slice_index bs 0) (slice_index bs 1) (slice_index bs 2) (slice_index bs 3) (slice_index bs 4) };
+
+    fn try_from(bytes: [u8; 5]) -> Result<Marks, BadMarks> {
+        let [component, element, decimal, release, terminator] = bytes;
         let marks = Marks {
             component,
             element,
-            decimal,
+            decimal: DecimalMark::try_from(decimal)?,
             release,
             terminator,
         };
         if marks.are_lawful() {
-            Some(marks)
+            Ok(marks)
         } else {
-            None
+            Err(BadMarks)
         }
     }
 }

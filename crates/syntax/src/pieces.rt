@@ -1,49 +1,70 @@
 // The pieces of bytes between unprotected marks.
-ghost use Rattle.std.specs.Prelude.{◌≡◌, ◌≤◌, false, length};
+ghost use Rattle.std.specs.Prelude.{◌≡◌, ◌+◌, ◌^◌, ◌<◌, ◌≤◌, ◌∷◌, false, length};
+ghost use Rattle.std.specs.Iterator.{YieldsFirstRef, item_count};
 ghost use Rattle.std.specs.Option.{option_map};
 ghost use Rattle.std.specs.List.{slice_get};
-ghost use Rattle.syntax.specs.Split.{split, reach};
-ghost use Rattle.syntax.specs.Cursors.{Takes, pieces_left};
-ghost use Rattle.std.specs.Iterator.{at_most};
+ghost use Rattle.syntax.specs.Split.{split, reach, divides as divides_in};
+ghost use Rattle.syntax.specs.Cursors.{pieces_in, pieces_left};
 
-use crate::bytes::{is_mark, is_release};
+use crate::bytes::is_release;
+
+// A mark that divides bytes, with the mark that releases it.
+#[derive(Clone, Copy, PartialEq, Eq, Debug, Drop)]
+pub struct Divider {
+    pub release: u8,
+    pub mark: u8,
+}
+
+impl Divider {
+    // Whether `b` is the mark, unprotected. A release mark is no other mark.
+    pub fn divides(self, b: u8, protected: bool) -> bool
+        ensures { result ≡ divides_in self.release self.mark protected b }
+    {
+        !protected && b != self.release && b == self.mark
+    }
+}
 
 // The length of the first piece of `bytes`.
-pub fn first_piece(bytes: &[u8], release: u8, mark: u8) -> usize
-    ensures value { result ≡ reach release mark false bytes.now }
+pub fn first_piece(bytes: &[u8], divider: Divider) -> usize
+    ensures value { result ≡ reach divider.release divider.mark false bytes.now }
     ensures within { result ≤ length bytes.now }
 {
-    let mut i = 0;
     let mut protected = false;
-    while i < bytes.len() {
-        let b = bytes[i];
-        if is_mark(b, release, mark, protected) {
+    for (i, b) in bytes.iter().enumerate() {
+        if divider.divides(*b, protected) {
             return i;
         }
-        protected = is_release(b, release, protected);
-        i += 1;
+        protected = is_release(*b, divider.release, protected);
     }
-    i
+    bytes.len()
+}
+
+// The first piece of `bytes`, and what follows its mark, if there is one.
+fn split_first_piece<'t>(bytes: &'t [u8], divider: Divider) -> (&'t [u8], Option<&'t [u8]>)
+    ensures { split divider.release divider.mark false bytes.now ≡ result.0.now ∷ pieces_in divider (option_map (λ x. x.now) result.1) }
+{
+    let (piece, behind) = bytes.split_at(first_piece(bytes, divider));
+    match behind {
+        [_, rest @ ..] => (piece, Some(rest)),
+        [] => (piece, None),
+    }
 }
 
 // The pieces that are still to come.
 #[derive(Clone, Copy, Drop)]
 pub struct Pieces<'t> {
-    rest: &'t [u8],
-    release: u8,
-    mark: u8,
-    more: bool,
+    rest: Option<&'t [u8]>,
+    divider: Divider,
 }
 
 impl<'t> Pieces<'t> {
-    pub fn of(bytes: &'t [u8], release: u8, mark: u8) -> Pieces<'t>
-        ensures { pieces_left result ≡ split release mark false bytes.now }
+    pub fn of(bytes: &'t [u8], divider: Divider) -> Pieces<'t>
+        ensures value { pieces_left result ≡ split divider.release divider.mark false bytes.now }
+        ensures few { length (pieces_left result) + 1 < 2 ^ 64 }
     {
         Pieces {
-            rest: bytes,
-            release,
-            mark,
-            more: true,
+            rest: Some(bytes),
+            divider,
         }
     }
 }
@@ -51,52 +72,34 @@ impl<'t> Pieces<'t> {
 impl<'t> Iterator for Pieces<'t> {
     type Item = &'t [u8];
 
-    ghost next_gives = { λ s r t. Takes (pieces_left s) (option_map (λ x. x.now) r) (pieces_left t) };
+    ghost next_gives = { YieldsFirstRef pieces_left };
 
-    ghost remaining = { λ s. at_most (length (pieces_left s)) };
+    ghost remaining = { item_count pieces_left };
 
     fn next(&mut self) -> Option<&'t [u8]> {
-        if !self.more {
-            return None;
-        }
-        let rest = self.rest;
-        let n = first_piece(rest, self.release, self.mark);
-        if n < rest.len() {
-            self.rest = &rest[n + 1..];
-            Some(&rest[0..n])
-        } else {
-            self.more = false;
-            Some(rest)
-        }
+        let (piece, rest) = split_first_piece(self.rest?, self.divider);
+        self.rest = rest;
+        Some(piece)
     }
+}
+
+// The piece of that number, from 0, of those that are still to come.
+fn nth_piece<'t>(mut pieces: Pieces<'t>, number: usize) -> Option<&'t [u8]>
+    ensures { option_map (λ x. x.now) result ≡ slice_get (pieces_left pieces.entry) number }
+{
+    pieces.nth(number)
 }
 
 // The piece of that number, from 0.
-pub fn piece<'t>(bytes: &'t [u8], release: u8, mark: u8, number: usize) -> Option<&'t [u8]>
-    ensures { option_map (λ x. x.now) result ≡ slice_get (split release mark false bytes.now) number }
+pub fn piece<'t>(bytes: &'t [u8], divider: Divider, number: usize) -> Option<&'t [u8]>
+    ensures { option_map (λ x. x.now) result ≡ slice_get (split divider.release divider.mark false bytes.now) number }
 {
-    let mut pieces = Pieces::of(bytes, release, mark);
-    let mut before = number;
-    while before > 0 {
-        match pieces.next() {
-            Some(_) => before -= 1,
-            None => return None,
-        }
-    }
-    pieces.next()
+    nth_piece(Pieces::of(bytes, divider), number)
 }
 
 // How many pieces there are.
-pub fn piece_count(bytes: &[u8], release: u8, mark: u8) -> usize
-    ensures { result ≡ length (split release mark false bytes.now) }
+pub fn piece_count(bytes: &[u8], divider: Divider) -> usize
+    ensures { result ≡ length (split divider.release divider.mark false bytes.now) }
 {
-    let mut count = 1;
-    let mut protected = false;
-    for b in bytes {
-        if is_mark(*b, release, mark, protected) {
-            count += 1;
-        }
-        protected = is_release(*b, release, protected);
-    }
-    count
+    Pieces::of(bytes, divider).count()
 }

@@ -5,11 +5,13 @@ mod edges;
 #[cfg(test)]
 mod tests;
 
-use books::recadv::Recadv;
-use books::trial::TrialBook;
+use booklist::form::push_book;
+use books::{recadv, trial};
 use edges::EDGES;
 use listing::command::Detail;
-use listing::plain;
+use listing::page::Page;
+use listing::plain::Plain;
+use listing::text::push_text;
 use std::fs;
 use std::io::Write;
 
@@ -17,17 +19,16 @@ use std::io::Write;
 const UNENDED: [&str; 3] = ["advice-5.edi", "advice-6.edi", "advice-7.edi"];
 
 fn main(rt: HostRuntime) -> anyhow::Result<()> {
-    let heap = rt.alloc();
-    let mut out = Vec::new(heap);
+    let mut page = Page::new(rt.alloc());
     for name in UNENDED {
         let text = fs::read(&rt, name)?;
-        plain::push_text(heap, &mut out, name, text.as_slice())?;
+        push_text::<Plain>(&mut page, name, text.as_slice())?;
     }
     for edge in &EDGES {
-        plain::push_text(heap, &mut out, edge.what, edge.text)?;
+        push_text::<Plain>(&mut page, edge.what, edge.text)?;
     }
-    booklist::plain::push_book(heap, &mut out, &TrialBook, Detail::Layouts)?;
-    booklist::plain::push_book(heap, &mut out, &Recadv, Detail::Layouts)?;
-    rt.stdout().write_all(out.as_slice())?;
+    push_book::<Plain, _>(&mut page, &trial::book(), Detail::Layouts)?;
+    push_book::<Plain, _>(&mut page, &recadv::book(), Detail::Layouts)?;
+    rt.stdout().write_all(page.as_slice())?;
     Ok(())
 }

@@ -1,15 +1,18 @@
 // Tests over the public calls.
 use crate::edges::EDGES;
-use books::recadv::Recadv;
-use books::trial::TrialBook;
+use booklist::form::push_book;
+use books::{recadv, trial};
 use edifact::cutter::Cutter;
 use listing::command::{BookWord, Detail, Format, Request, Which, Word, parse};
-use listing::plain;
+use listing::page::Page;
+use listing::person::Person;
+use listing::plain::Plain;
+use listing::text::{push_elements, push_segment, push_text};
 use message::book::Book;
 use std::alloc::{AllocError, Global};
 use std::process::Abort;
 use std::test::Fail;
-use syntax::fault::{CutFault, Place};
+use syntax::fault::{CutFault, Place, Refusal};
 use syntax::marks::DecimalMark;
 
 // Each edge's listing ends in its line.
@@ -17,12 +20,40 @@ use syntax::marks::DecimalMark;
 fn edges_end_as_they_should(rt: HostRuntime) -> Result<(), Fail> {
     let heap = rt.alloc();
     for edge in &EDGES {
-        let mut out = Vec::new(heap);
-        plain::push_text(heap, &mut out, edge.what, edge.text)?;
+        let mut page = Page::new(heap);
+        push_text::<Plain>(&mut page, edge.what, edge.text)?;
         let last = edge.last;
         let line = format!(in heap; "\n{last}\n")?;
-        assert!(rt; out.as_slice().ends_with(line.as_bytes()), "{}", edge.what);
+        assert!(rt; page.as_slice().ends_with(line.as_bytes()), "{}", edge.what);
     }
+    Ok(())
+}
+
+// A page holds what is pushed and written to it, in order.
+#[test]
+fn page_holds_what_is_pushed(rt: HostRuntime) -> Result<(), Fail> {
+    let mut page = Page::new(rt.alloc());
+    page.push(b'a')?;
+    page.push_bytes(b"bc")?;
+    write!(page, "{}-{:>3}", "d", 7)?;
+    assert!(rt; page.as_slice() == b"abcd-  7".as_slice());
+    Ok(())
+}
+
+// A segment of a page in either form.
+#[test]
+fn segment_on_a_page(rt: HostRuntime) -> Result<(), Fail> {
+    let mut cutter = Cutter::new(b"BGM+351+A:B'");
+    let segment = cutter.next()?.ok_or("no segment")?;
+    let mut plain = Page::new(rt.alloc());
+    push_segment::<Plain>(&mut plain, &segment)?;
+    assert!(rt;
+        plain.as_slice()
+            == b"segment\t1\tBGM\t0\t11\ncomponent\t1\t1\t351\ncomponent\t2\t1\tA\ncomponent\t2\t2\tB\n".as_slice()
+    );
+    let mut person = Page::new(rt.alloc());
+    push_elements::<Person>(&mut person, &segment)?;
+    assert!(rt; person.as_slice() == b"           1  351\n           2  A | B\n".as_slice());
     Ok(())
 }
 
@@ -83,32 +114,32 @@ fn cutter_stays_where_it_stops(rt: HostRuntime) -> Result<(), Fail> {
             Err(told) => assert_eq!(rt; told, fault),
         }
     }
-    assert_eq!(rt; fault.refusal().number, 3);
+    assert_eq!(rt; Refusal::from(fault).number, 3);
     Ok(())
 }
 
 #[test]
 fn words_of_the_command_line(rt: HostRuntime) {
-    assert_eq!(rt; Word::of("--plain"), Word::Plain);
-    assert_eq!(rt; Word::of("--help"), Word::Help);
-    assert_eq!(rt; Word::of("--"), Word::EndOfOptions);
-    assert_eq!(rt; Word::of("-"), Word::File);
-    assert_eq!(rt; Word::of("-x"), Word::UnknownOption);
-    assert_eq!(rt; Word::of("--plan"), Word::UnknownOption);
-    assert_eq!(rt; Word::of("advice.edi"), Word::File);
-    assert_eq!(rt; Word::of(""), Word::File);
+    assert_eq!(rt; Word::from("--plain"), Word::Plain);
+    assert_eq!(rt; Word::from("--help"), Word::Help);
+    assert_eq!(rt; Word::from("--"), Word::EndOfOptions);
+    assert_eq!(rt; Word::from("-"), Word::File);
+    assert_eq!(rt; Word::from("-x"), Word::UnknownOption);
+    assert_eq!(rt; Word::from("--plan"), Word::UnknownOption);
+    assert_eq!(rt; Word::from("advice.edi"), Word::File);
+    assert_eq!(rt; Word::from(""), Word::File);
 }
 
 #[test]
 fn words_behind_book(rt: HostRuntime) {
-    assert_eq!(rt; BookWord::of("--trial"), BookWord::Trial);
-    assert_eq!(rt; BookWord::of("--layouts"), BookWord::Layouts);
-    assert_eq!(rt; BookWord::of("--plain"), BookWord::Plain);
-    assert_eq!(rt; BookWord::of("--help"), BookWord::Help);
-    assert_eq!(rt; BookWord::of("--"), BookWord::Unknown);
-    assert_eq!(rt; BookWord::of("-"), BookWord::Unknown);
-    assert_eq!(rt; BookWord::of("trial"), BookWord::Unknown);
-    assert_eq!(rt; BookWord::of(""), BookWord::Unknown);
+    assert_eq!(rt; BookWord::from("--trial"), BookWord::Trial);
+    assert_eq!(rt; BookWord::from("--layouts"), BookWord::Layouts);
+    assert_eq!(rt; BookWord::from("--plain"), BookWord::Plain);
+    assert_eq!(rt; BookWord::from("--help"), BookWord::Help);
+    assert_eq!(rt; BookWord::from("--"), BookWord::Unknown);
+    assert_eq!(rt; BookWord::from("-"), BookWord::Unknown);
+    assert_eq!(rt; BookWord::from("trial"), BookWord::Unknown);
+    assert_eq!(rt; BookWord::from(""), BookWord::Unknown);
 }
 
 // The request that words with a space between them make.
@@ -221,16 +252,15 @@ fn command_lines_of_book(rt: HostRuntime) -> Result<(), Fail> {
 // The listing of a book for a person, without and with its layouts.
 #[test]
 fn book_for_a_person(rt: HostRuntime) -> Result<(), Fail> {
-    let heap = rt.alloc();
-    let mut rows = Vec::new(heap);
-    booklist::person::push_book(heap, &mut rows, &TrialBook, Detail::Rows)?;
+    let mut rows = Page::new(rt.alloc());
+    push_book::<Person, _>(&mut rows, &trial::book(), Detail::Rows)?;
     assert!(rt;
         rows.as_slice().starts_with(
             b"TSTMSG:D:01B:UN:EAN005\n     0  UNH, required, up to 1 time\n     1  BGM, required, up to 1 time\n     2  DTM, required, up to 2 times\n     3    RFF group, optional, up to 2 times\n",
         )
     );
-    let mut layouts = Vec::new(heap);
-    booklist::person::push_book(heap, &mut layouts, &Recadv, Detail::Layouts)?;
+    let mut layouts = Page::new(rt.alloc());
+    push_book::<Person, _>(&mut layouts, &recadv::book(), Detail::Layouts)?;
     assert!(rt;
         layouts.as_slice().starts_with(
             b"RECADV:D:01B:UN:EAN005\n     0  UNH, required, up to 1 time\n     1  BGM, required, up to 1 time\n           1 R composite\n           1.1 an..3 R one of 632\n           1.2 an..17 N\n",

@@ -2,7 +2,7 @@
 use edifact::cutter::Cutter;
 use message::book::Diagram;
 use message::walk::Walk;
-use std::alloc::{AllocError, Global};
+use std::io::{self, Write};
 
 // Tags that are offered one after the other.
 pub struct TagList {
@@ -77,91 +77,55 @@ pub const UNCLEAR_WALKS: [TagList; 2] = [
 ];
 
 // Each offer is asked for first; a line tells the tag, and its row and occurrence or that none can come next.
-fn push_offer<D: Diagram>(
-    heap: Global,
+fn write_offer<D: Diagram>(
     out: &mut Vec<u8>,
     walk: &mut Walk<'_, D>,
     tag: [u8; 3],
-) -> Result<(), AllocError> {
+) -> io::Result<()> {
     let asked = walk.ask(tag);
     let answer = walk.offer(tag);
-    for letter in tag {
-        out.push(letter)?;
+    out.write_all(&tag)?;
+    match answer {
+        Some((row, occurrence)) => write!(out, "\trow\t{row}\t{occurrence}")?,
+        None => write!(out, "\tnone")?,
     }
-    let line = match answer {
-        Some((row, occurrence)) => format!(in heap; "\trow\t{row}\t{occurrence}")?,
-        None => format!(in heap; "\tnone")?,
-    };
-    out.extend_from_slice(line.as_bytes())?;
-    let note: &str = match (asked, answer) {
-        (Some(a), Some(b)) => {
-            if a.0 == b.0 && a.1 == b.1 {
-                "\n"
-            } else {
-                "\tasked otherwise\n"
-            }
-        }
-        (None, None) => "\n",
-        (Some(_), None) => "\tasked otherwise\n",
-        (None, Some(_)) => "\tasked otherwise\n",
-    };
-    out.extend_from_slice(note.as_bytes())?;
-    Ok(())
+    if asked != answer {
+        write!(out, "\tasked otherwise")?;
+    }
+    writeln!(out)
 }
 
-fn push_end<D: Diagram>(out: &mut Vec<u8>, walk: &Walk<'_, D>) -> Result<(), AllocError> {
-    let end: &str = if walk.is_complete() {
-        "complete\n"
+fn write_end<D: Diagram>(out: &mut Vec<u8>, walk: &Walk<'_, D>) -> io::Result<()> {
+    if walk.is_complete() {
+        writeln!(out, "complete")
     } else {
-        "incomplete\n"
-    };
-    out.extend_from_slice(end.as_bytes())?;
-    Ok(())
-}
-
-// The tag that a word is, if it has three bytes.
-fn tag_of(word: &[u8]) -> Option<[u8; 3]> {
-    match word {
-        [a, b, c] => Some([*a, *b, *c]),
-        _ => None,
+        writeln!(out, "incomplete")
     }
 }
 
-pub fn push_walk<D: Diagram>(
-    heap: Global,
-    out: &mut Vec<u8>,
-    diagram: &D,
-    list: &TagList,
-) -> Result<(), AllocError> {
-    let what = list.what;
-    let title = format!(in heap; "walk\t{what}\n")?;
-    out.extend_from_slice(title.as_bytes())?;
+pub fn write_walk<D: Diagram>(out: &mut Vec<u8>, diagram: &D, list: &TagList) -> io::Result<()> {
+    writeln!(out, "walk\t{}", list.what)?;
     let mut walk = Walk::new(diagram);
     for word in list.tags.split(' ') {
-        if let Some(tag) = tag_of(word.as_bytes()) {
-            push_offer(heap, out, &mut walk, tag)?;
+        if let Ok(tag) = <[u8; 3]>::try_from(word.as_bytes()) {
+            write_offer(out, &mut walk, tag)?;
         }
     }
-    push_end(out, &walk)
+    write_end(out, &walk)
 }
 
 // The tags of a text's segments, up to the first that can't be cut.
-pub fn push_text_walk<D: Diagram>(
-    heap: Global,
+pub fn write_text_walk<D: Diagram>(
     out: &mut Vec<u8>,
     diagram: &D,
     name: &str,
     text: &[u8],
-) -> Result<(), AllocError> {
-    let title = format!(in heap; "walk\t{name}\n")?;
-    out.extend_from_slice(title.as_bytes())?;
+) -> io::Result<()> {
+    writeln!(out, "walk\t{name}")?;
     let mut walk = Walk::new(diagram);
     let mut cutter = Cutter::new(text);
-    for _ in 0..text.len() {
-        let Ok(Some(segment)) = cutter.next() else {
-            break;
-        };
-        push_offer(heap, out, &mut walk, segment.tag())?;
+    while let Ok(Some(segment)) = cutter.next() {
+        write_offer(out, &mut walk, segment.tag())?;
     }
-    push_end(out, &walk)
+    write_end(out, &walk)
 }

@@ -4,9 +4,8 @@
 mod lists;
 mod unclear;
 
-use books::recadv::Recadv;
-use books::trial::TrialBook;
-use lists::{TRIAL_WALKS, UNCLEAR_WALKS, push_text_walk, push_walk};
+use books::{recadv, trial};
+use lists::{TRIAL_WALKS, UNCLEAR_WALKS, write_text_walk, write_walk};
 use std::fs;
 use std::io::Write;
 use unclear::Unclear;
@@ -15,17 +14,16 @@ use unclear::Unclear;
 const ADVICES: [&str; 3] = ["advice-5.edi", "advice-6.edi", "advice-7.edi"];
 
 fn main(rt: HostRuntime) -> anyhow::Result<()> {
-    let heap = rt.alloc();
-    let mut out = Vec::new(heap);
+    let mut out = Vec::new(rt.alloc());
     for list in &TRIAL_WALKS {
-        push_walk(heap, &mut out, &TrialBook, list)?;
+        write_walk(&mut out, &trial::book(), list)?;
     }
     for list in &UNCLEAR_WALKS {
-        push_walk(heap, &mut out, &Unclear::new(), list)?;
+        write_walk(&mut out, &Unclear::new(), list)?;
     }
     for name in ADVICES {
         let text = fs::read(&rt, name)?;
-        push_text_walk(heap, &mut out, &Recadv, name, text.as_slice())?;
+        write_text_walk(&mut out, &recadv::book(), name, text.as_slice())?;
     }
     rt.stdout().write_all(out.as_slice())?;
     Ok(())

@@ -7,17 +7,57 @@ ghost use Rattle.message.proofs.RowTests.{rows_keep_rules};
 use message::book::Diagram;
 use message::row::{Kind, Need, Row};
 
-fn line(tag: [u8; 3], level: u8, kind: Kind, need: Need, limit: u32) -> Row
-    ensures { result ≡ record { tag = tag; level = level; kind = kind; need = need; limit = limit } }
-{
+static ROWS: [Row; 7] = [
     Row {
-        tag,
-        level,
-        kind,
-        need,
-        limit,
-    }
-}
+        tag: *b"UNH",
+        level: 0,
+        kind: Kind::Plain,
+        need: Need::Required,
+        limit: 1,
+    },
+    Row {
+        tag: *b"LIN",
+        level: 1,
+        kind: Kind::Trigger,
+        need: Need::Optional,
+        limit: 2,
+    },
+    Row {
+        tag: *b"PCI",
+        level: 2,
+        kind: Kind::Trigger,
+        need: Need::Optional,
+        limit: 1,
+    },
+    Row {
+        tag: *b"LIN",
+        level: 2,
+        kind: Kind::Plain,
+        need: Need::Optional,
+        limit: 1,
+    },
+    Row {
+        tag: *b"DTM",
+        level: 0,
+        kind: Kind::Plain,
+        need: Need::Optional,
+        limit: 1,
+    },
+    Row {
+        tag: *b"DTM",
+        level: 0,
+        kind: Kind::Plain,
+        need: Need::Optional,
+        limit: 2,
+    },
+    Row {
+        tag: *b"UNT",
+        level: 0,
+        kind: Kind::Plain,
+        need: Need::Required,
+        limit: 1,
+    },
+];
 
 #[derive(Clone, Copy, Drop)]
 pub struct Unclear;
@@ -38,19 +78,10 @@ impl Diagram for Unclear {
     ghost lawful = { λ s. rows_keep_rules unclear_rows refl };
 
     fn row_count(&self) -> usize {
-        7
+        ROWS.len()
     }
 
     fn row(&self, number: usize) -> Option<Row> {
-        match number {
-            0 => Some(line(*b"UNH", 0, Kind::Plain, Need::Required, 1)),
-            1 => Some(line(*b"LIN", 1, Kind::Trigger, Need::Optional, 2)),
-            2 => Some(line(*b"PCI", 2, Kind::Trigger, Need::Optional, 1)),
-            3 => Some(line(*b"LIN", 2, Kind::Plain, Need::Optional, 1)),
-            4 => Some(line(*b"DTM", 0, Kind::Plain, Need::Optional, 1)),
-            5 => Some(line(*b"DTM", 0, Kind::Plain, Need::Optional, 2)),
-            6 => Some(line(*b"UNT", 0, Kind::Plain, Need::Required, 1)),
-            _ => None,
-        }
+        ROWS.get(number).copied()
     }
 }

@@ -1,5 +1,5 @@
 // What the cutter does.
-ghost use Rattle.std.specs.Prelude.{◌≡◌, ℕ, ◌+◌, ◌^◌, ◌<◌, ◌≤◌, List, length as size, if◌then◌else◌};
+ghost use Rattle.std.specs.Prelude.{◌≡◌, ℕ, ◌+◌, ◌^◌, ◌<◌, ◌≤◌, List, drop, length as size, if◌then◌else◌};
 ghost use Rattle.std.specs.Option.{unwrap_or};
 ghost use Rattle.syntax.specs.Marks.{has_header, header_length, marks_of, usual};
 ghost use Rattle.syntax.specs.Bytes.{break_run};
@@ -7,8 +7,9 @@ ghost use Rattle.edifact.specs.Cutting.{cut};
 ghost use Rattle.edifact.specs.Laws.{JoinsBack, OnlyCut, CharactersSpelled};
 ghost use Rattle.edifact.specs.Cursors.{remaining, Tells, HandsOut};
 
-use crate::cutter::Cutter;
-use crate::scan::{break_count, first_segment};
+use crate::cutter::{Cutter, Rest};
+use crate::part::Text;
+use crate::scan::break_count;
 use crate::segment::Segment;
 use syntax::fault::CutFault;
 use syntax::header::{has_header, read_header};
@@ -32,12 +33,22 @@ fn leading_breaks(text: &[u8], body: &[u8]) -> usize
     break_count(body)
 }
 
-// Where the next segment begins: behind a segment that begins at `at`, its terminator and the skipped breaks.
-fn behind_segment(at: usize, length: usize, skipped: usize) -> usize
-    requires { at + (length + 1 + skipped) < 2 ^ 64 }
-    ensures { result ≡ at + (length + 1 + skipped) }
-{
-    at + (length + 1 + skipped)
+impl<'t> Rest<'t> {
+    // What is left behind a segment of `length` bytes, its terminator, and the CR and LF behind that.
+    fn behind(&self, length: usize) -> Rest<'t>
+        requires { length < size self.now.bytes.now }
+        ensures bytes { let left = drop (length + 1) self.now.bytes.now in result.bytes.now ≡ drop (break_run left) left }
+        ensures position { result.position ≡ self.now.position + (length + 1 + break_run (drop (length + 1) self.now.bytes.now)) }
+        ensures number { result.number ≡ self.now.number + 1 }
+    {
+        let bytes = &self.bytes[length + 1..];
+        let skipped = break_count(bytes);
+        Rest {
+            bytes: &bytes[skipped..],
+            position: self.position + (length + 1 + skipped),
+            number: self.number + 1,
+        }
+    }
 }
 
 impl<'t> Cutter<'t> {
@@ -54,22 +65,18 @@ impl<'t> Cutter<'t> {
             Err(fault) => {
                 return Cutter {
                     marks: Marks::usual(),
-                    body: text,
-                    offset: 0,
-                    at: 0,
-                    number: 0,
-                    fault: Some(fault),
+                    rest: Err(fault),
                 };
             }
         };
-        let at = leading_breaks(text, body);
+        let skipped = leading_breaks(text, body);
         Cutter {
             marks,
-            body,
-            offset: header_length(text),
-            at,
-            number: 0,
-            fault: None,
+            rest: Ok(Rest {
+                bytes: &body[skipped..],
+                position: header_length(text) + skipped,
+                number: 1,
+            }),
         }
     }
 
@@ -80,58 +87,34 @@ impl<'t> Cutter<'t> {
         self.marks
     }
 
-    // Where the next segment begins in the whole text.
-    fn position(&self) -> usize
-        ensures { result ≡ self.now.offset + self.now.at }
-    {
-        self.offset + self.at
-    }
-
-    // The number of the next segment.
-    fn next_number(&self) -> usize
-        ensures { result ≡ self.now.number + 1 }
-    {
-        self.number + 1
-    }
-
     // The next segment, or none at the end of the text, or the fault at which it stops.
     pub fn next(&mut self) -> Result<Option<Segment<'t>>, CutFault>
         ensures tells { Tells (remaining self.old) result (remaining self.new) }
         ensures whole { HandsOut result }
         ensures marks { self.new.marks ≡ self.old.marks }
     {
-        if let Some(fault) = self.fault {
-            return Err(fault);
-        }
-        let body = self.body;
-        let marks = self.marks;
-        let at = self.at;
-        if at == body.len() {
+        let rest = self.rest?;
+        if rest.bytes.is_empty() {
             return Ok(None);
         }
-        let number = self.next_number();
-        let first = self.position();
-        let rest = &body[at..];
-        match first_segment(rest, marks, number) {
-            Ok(found) => {
-                let n = found.length;
-                let tag = found.tag;
-                let (bytes, behind) = rest.split_at(n);
-                let skipped = break_count(&behind[1..]);
-                self.at = behind_segment(at, n, skipped);
-                self.number = number;
-                Ok(Some(Segment {
-                    marks,
-                    number,
-                    first,
-                    bytes,
-                    tag,
-                }))
-            }
+        let marks = self.marks;
+        let text: Text<'t> = Text::of(marks, rest.bytes);
+        let found = match text.first_segment(rest.number) {
+            Ok(found) => found,
             Err(fault) => {
-                self.fault = Some(fault);
-                Err(fault)
+                self.rest = Err(fault);
+                return Err(fault);
             }
-        }
+        };
+        self.rest = Ok(rest.behind(found.length));
+        let (bytes, _) = rest.bytes.split_at(found.length);
+        let part = Text::of(marks, bytes);
+        let tag = found.tag;
+        Ok(Some(Segment {
+            number: rest.number,
+            first: rest.position,
+            part,
+            tag,
+        }))
     }
 }

@@ -1,9 +1,5 @@
-use Rattle.std.proofs.Common.{rules}
-use Rattle.message.proofs.Searches.{closing_step, closing_stay}
+use Rattle.message.proofs.Searches.{closing_step}
 use Rattle.message.proofs.search.close.Goals as goal
 
-pub loop-under-preserved : goal.loop-under-preserved
-loop-under-preserved c = search (rules, closing_step)
-
-pub returns-then-not-ends_at : goal.returns-then-not-ends_at
-returns-then-not-ends_at c = search (rules, closing_stay)
+pub loop-innermost-preserved : goal.loop-innermost-preserved
+loop-innermost-preserved c = closing_step c.args.held.now c.args.depth c.args.tag _ _ _ _ _ _ _ c.loop-innermost.invariant c.in-Some.ensures.cases c.ends_at.ensures c.if-ends_at.true c.again.ensures c.lower_of-again.ensures

@@ -1,8 +1,9 @@
+use Rattle.std.proofs.Common.{length}
 use Rattle.message.proofs.Searches.{Closing}
 use Rattle.message.proofs.search.close.Given as goal
 
-abbrev pub invariant-loop-under : goal.invariant-loop-under
-invariant-loop-under l = Closing l.held l.depth l.tag l.initial.under l.initial.best l.under l.best
+abbrev pub invariant-loop-innermost : goal.invariant-loop-innermost
+invariant-loop-innermost l = Closing l.held l.depth l.tag l.open l.again
 
-abbrev pub decreases-loop-under : goal.decreases-loop-under
-decreases-loop-under l = l.under
+abbrev pub decreases-loop-innermost : goal.decreases-loop-innermost
+decreases-loop-innermost l = length l.open

@@ -1,6 +1,0 @@
-use Rattle.std.proofs.Common.{◌≡◌, ◌+◌, ◌≤◌, false, length, drop}
-use Rattle.syntax.specs.Split.{split}
-use Rattle.syntax.proofs.pieces.piece_count.Given as goal
-
-abbrev pub invariant-loop-b : goal.invariant-loop-b
-invariant-loop-b l = (l.count ≤ l.b-index + 1) × (l.count + length (split l.release l.mark l.protected (drop l.b-index l.bytes)) ≡ 1 + length (split l.release l.mark false l.bytes))
