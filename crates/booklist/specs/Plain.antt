@@ -1,5 +1,5 @@
 -- The plain listing of a book: lines of fields with a tab between them.
-use Rattle.std.specs.Prelude.{ℕ, ◌+◌, List, [], ◌∷◌, ◌++◌, Some, None, codes, Option}
+use Rattle.std.specs.Prelude.{ℕ, List, [], ◌∷◌, ◌++◌, Some, None, codes, Option}
 use Rattle.std.proofs.Math.Utf8.{encode}
 use Rattle.std.specs.List.{slice_get}
 use Rattle.listing.specs.Plain.{field}

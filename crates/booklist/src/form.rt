@@ -1,5 +1,6 @@
 // The listing of a book, in the form that is asked. A book tells its rows, elements, components and codes by
-// number, so each loop goes over the numbers.
+// number, so each loop goes over the numbers. The functions take these numbers as a form's methods do: a struct
+// of them would be made and taken apart at each call.
 ghost use Rattle.std.specs.Prelude.{◌≡◌, ℕ, ◌+◌, ◌^◌, ◌<◌, List, [], ◌∷◌, ◌++◌, Some, OnOk};
 ghost use Rattle.booklist.specs.Form.{spaced, codes_text, components_text, layout_text, row_lines, rows_text};
 ghost use Rattle.message.specs.declared.row.Row.{Row};
@@ -13,7 +14,7 @@ use message::layout::{ComponentRule, ElementRule};
 use message::row::Row;
 use std::alloc::AllocError;
 
-// The most elements that a layout has.
+// The most elements that a layout has: a book doesn't tell how many a row has.
 pub const MOST_ELEMENTS: usize = 40;
 
 // How many parts an identifier has.
@@ -84,7 +85,7 @@ pub fn push_codes<B: Book>(
     Ok(())
 }
 
-// A component with its codes.
+// A component with its codes. The bounds here and below are no field of a type: they hang on how far the loops have come.
 fn push_component_line<F: BookForm, B: Book>(
     page: &mut Page,
     book: &B,
@@ -135,7 +136,7 @@ fn push_element_lines<F: BookForm, B: Book>(
     push_components::<F, B>(page, book, n, e, rule.components)
 }
 
-// The elements and components of row `n`.
+// The elements and components of row `n`. A book doesn't tell how many elements a row has, but never more than `MOST_ELEMENTS`.
 pub fn push_layout<F: BookForm, B: Book>(
     page: &mut Page,
     book: &B,

@@ -3,4 +3,4 @@
 
 pub mod form;
 mod person;
-pub mod plain;
+mod plain;

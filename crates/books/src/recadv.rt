@@ -1,12 +1,12 @@
 // The receiving advice RECADV.
-ghost use Rattle.std.specs.Prelude.{◌≡◌, true};
+ghost use Rattle.std.specs.Prelude.{◌≡◌, true, refl};
 ghost use Rattle.message.specs.Following.{followers_differ};
 ghost use Rattle.message.specs.Rows.{ClearRows};
 ghost use Rattle.message.specs.Messages.{Clear};
 ghost use Rattle.books.specs.RecadvExamples.{recadv, examples_fit};
 ghost use Rattle.books.specs.Recadv.{recadv_rows, recadv_layouts, recadv_identifier};
 
-use crate::tables::{RowLine, Table, TableBook, an, element, num, row};
+use crate::tables::{BuiltIn, RowLine, Table, TableBook, an, element, num, row};
 use message::book::{Book, Diagram};
 
 // The header section.
@@ -380,24 +380,51 @@ static DETAIL: [RowLine; 18] = [
     },
 ];
 
+// The table of the receiving advice.
+#[derive(Clone, Copy, Drop)]
+pub struct RecadvTable;
+
+impl BuiltIn for RecadvTable {
+    ghost rows = { recadv_rows };
+
+    ghost layouts = { recadv_layouts };
+
+    ghost identifier = { recadv_identifier };
+
+    // the laws are tests, computed over all rows and layouts
+    ghost lawful = { refl };
+
+    ghost regular = { refl };
+
+    ghost paired = { refl };
+
+    ghost bare = { (refl, refl) };
+
+    ghost identified = { refl };
+
+    fn table() -> Table {
+        Table {
+            header: &HEADER,
+            detail: &DETAIL,
+            identifier: &["RECADV", "D", "01B", "UN", "EAN005"],
+        }
+    }
+}
+
 // The receiving advice RECADV, EANCOM 2002, version 005, directory D.01B.
-// Of all rows that may come directly after one row, no two different ones have the same tag.
+pub type Recadv = TableBook<RecadvTable>;
+
+// The book. Of all rows that may come directly after one row, no two different ones have the same tag.
 // It is clear: no two different rows of one tag can follow the same row, in messages of rows and so in messages.
 // The guideline's example of each row fits that row.
-pub fn book() -> TableBook
-    ensures rows { ⟦<TableBook as Diagram>⟧.rows result ≡ recadv_rows }
-    ensures layouts { ⟦<TableBook as Book>⟧.layouts result ≡ recadv_layouts }
-    ensures identifier { ⟦<TableBook as Book>⟧.identifier result ≡ recadv_identifier }
+pub fn book() -> Recadv
+    ensures rows { ⟦<Recadv as Diagram>⟧.rows result ≡ recadv_rows }
+    ensures layouts { ⟦<Recadv as Book>⟧.layouts result ≡ recadv_layouts }
+    ensures identifier { ⟦<Recadv as Book>⟧.identifier result ≡ recadv_identifier }
     ensures followers { followers_differ recadv_rows ≡ true }
     ensures diagram { ClearRows recadv_rows }
     ensures clear { Clear recadv }
     ensures examples { examples_fit ≡ true }
 {
-    TableBook {
-        table: Table {
-            header: &HEADER,
-            detail: &DETAIL,
-            identifier: &["RECADV", "D", "01B", "UN", "EAN005"],
-        },
-    }
+    TableBook::new()
 }

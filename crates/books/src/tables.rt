@@ -1,17 +1,17 @@
 // A book as a table of its rows and layouts.
-ghost use Rattle.std.specs.Prelude.{◌≡◌, true, [], length, Some, ◌-◌};
+ghost use Rattle.std.specs.Prelude.{◌≡◌, ℕ, List, true, [], length, Some, ◌-◌};
 ghost use Rattle.std.specs.List.{slice_get};
 ghost use Rattle.std.specs.Option.{option_map, option_copied};
-ghost use Rattle.std.proofs.Common.{sym, ◌∙◌};
-ghost use Rattle.std.proofs.lemmas.List.{length-map};
-ghost use Rattle.message.specs.Layouts.{all, layout_rule, identifier_rule, element_at, component_at};
+ghost use Rattle.message.specs.declared.row.Row.{Row};
+ghost use Rattle.message.specs.Layouts.{Layout, all, layout_rule, identifier_rule, element_at, component_at};
 ghost use Rattle.message.specs.RowTests.{rows_test};
 ghost use Rattle.message.proofs.RowTests.{rows_keep_rules};
-ghost use Rattle.books.specs.Tables.{lines_of, rows_of, element_of, component_of, layout_of, layouts_of, identifier_of};
+ghost use Rattle.books.specs.Tables.{lines_of, rows_of, element_of, component_of, layouts_of, identifier_of};
 
 use message::book::{Book, Diagram};
 use message::layout::{Class, ComponentRule, ElementRule, Extent};
 use message::row::Row;
+use std::marker::PhantomData;
 
 // A row with its layout.
 #[derive(Clone, Copy, Drop)]
@@ -20,12 +20,14 @@ pub struct RowLine {
     pub layout: &'static [ElementLine],
 }
 
+// An element of a row, with its components; its status letter is told as a letter: a rule of the project.
 #[derive(Clone, Copy, Drop)]
 pub struct ElementLine {
     pub status: char,
     pub components: &'static [ComponentLine],
 }
 
+// A component of an element, with the codes that bind; its status letter is told as a letter: a rule of the project.
 #[derive(Clone, Copy, Drop)]
 pub struct ComponentLine {
     pub class: Class,
@@ -74,45 +76,72 @@ impl Table {
     }
 }
 
-// A book that a table tells.
-#[derive(Clone, Copy, Drop)]
-pub struct TableBook {
-    pub(crate) table: Table,
-    ghost lawful: { rows_test (rows_of table) ≡ true },
-    ghost regular: { all layout_rule (layouts_of table) ≡ true },
-    ghost bare: { (slice_get (layouts_of table) 0 ≡ Some []) × (slice_get (layouts_of table) (length (layouts_of table) - 1) ≡ Some []) },
-    ghost identified: { identifier_rule (identifier_of table) ≡ true },
+// What a built-in book stands on: a table, what it means, and that this keeps the laws of a book. The type says which.
+pub trait BuiltIn {
+    ghost rows: { List Row };
+
+    ghost layouts: { List Layout };
+
+    ghost identifier: { List (List ℕ) };
+
+    fn table() -> Table
+        ensures rows { rows_of result ≡ rows }
+        ensures layouts { layouts_of result ≡ layouts }
+        ensures identifier { identifier_of result ≡ identifier };
+
+    ghost lawful: { rows_test rows ≡ true };
+
+    ghost regular: { all layout_rule layouts ≡ true };
+
+    ghost paired: { length layouts ≡ length rows };
+
+    ghost bare: { (slice_get layouts 0 ≡ Some []) × (slice_get layouts (length layouts - 1) ≡ Some []) };
+
+    ghost identified: { identifier_rule identifier ≡ true };
 }
 
-impl Diagram for TableBook {
-    ghost rows = { λ s. rows_of s.table };
+// A built-in book. It holds nothing: its type says which table it tells.
+#[derive(Clone, Copy, Drop)]
+pub struct TableBook<T> {
+    of: PhantomData<T>,
+}
 
-    ghost lawful = { λ s. rows_keep_rules (rows_of s.table) s.lawful };
+impl<T> TableBook<T> {
+    pub(crate) fn new() -> TableBook<T> {
+        TableBook { of: PhantomData }
+    }
+}
+
+impl<T: BuiltIn> Diagram for TableBook<T> {
+    ghost rows = { λ _. T.rows };
+
+    ghost lawful = { λ _. rows_keep_rules T.rows T.lawful };
 
     fn row_count(&self) -> usize {
-        self.table.header.len() + self.table.detail.len()
+        let table = T::table();
+        table.header.len() + table.detail.len()
     }
 
     fn row(&self, number: usize) -> Option<Row> {
-        Some(self.table.row(number)?.row)
+        Some(T::table().row(number)?.row)
     }
 }
 
-impl Book for TableBook {
-    ghost layouts = { λ s. layouts_of s.table };
+impl<T: BuiltIn> Book for TableBook<T> {
+    ghost layouts = { λ _. T.layouts };
 
-    ghost identifier = { λ s. identifier_of s.table };
+    ghost identifier = { λ _. T.identifier };
 
-    ghost regular = { λ s. s.regular };
+    ghost regular = { λ _. T.regular };
 
-    ghost paired = { λ s. length-map (lines_of s.table) layout_of ∙ sym (length-map (lines_of s.table) (λ r. r.row)) };
+    ghost paired = { λ _. T.paired };
 
-    ghost bare = { λ s. s.bare };
+    ghost bare = { λ _. T.bare };
 
-    ghost identified = { λ s. s.identified };
+    ghost identified = { λ _. T.identified };
 
     fn element(&self, row: usize, element: usize) -> Option<ElementRule> {
-        let found = self.table.element(row, element)?;
+        let found = T::table().element(row, element)?;
         Some(ElementRule {
             status: found.status,
             components: found.components.len(),
@@ -120,7 +149,7 @@ impl Book for TableBook {
     }
 
     fn component(&self, row: usize, element: usize, component: usize) -> Option<ComponentRule> {
-        let found = self.table.component(row, element, component)?;
+        let found = T::table().component(row, element, component)?;
         Some(ComponentRule {
             class: found.class,
             extent: found.extent,
@@ -130,12 +159,12 @@ impl Book for TableBook {
     }
 
     fn code(&self, row: usize, element: usize, component: usize, code: usize) -> Option<&[u8]> {
-        let codes = self.table.component(row, element, component)?.codes;
+        let codes = T::table().component(row, element, component)?.codes;
         Some(codes.get(code)?.as_bytes())
     }
 
     fn identifier_part(&self, number: usize) -> Option<&[u8]> {
-        Some(self.table.identifier.get(number)?.as_bytes())
+        Some(T::table().identifier.get(number)?.as_bytes())
     }
 }
 

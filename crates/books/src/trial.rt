@@ -1,11 +1,11 @@
 // The trial book.
-ghost use Rattle.std.specs.Prelude.{◌≡◌, true};
+ghost use Rattle.std.specs.Prelude.{◌≡◌, true, refl};
 ghost use Rattle.message.specs.Following.{followers_differ};
 ghost use Rattle.message.specs.Rows.{ClearRows};
 ghost use Rattle.message.specs.Messages.{Clear};
 ghost use Rattle.books.specs.Trial.{trial_rows, trial_layouts, trial_identifier, trial_meaning};
 
-use crate::tables::{RowLine, Table, TableBook, an, element, row};
+use crate::tables::{BuiltIn, RowLine, Table, TableBook, an, element, row};
 use message::book::{Book, Diagram};
 
 // The header section.
@@ -71,22 +71,49 @@ static DETAIL: [RowLine; 5] = [
     },
 ];
 
+// The table of the trial book.
+#[derive(Clone, Copy, Drop)]
+pub struct TrialTable;
+
+impl BuiltIn for TrialTable {
+    ghost rows = { trial_rows };
+
+    ghost layouts = { trial_layouts };
+
+    ghost identifier = { trial_identifier };
+
+    // the laws are tests, computed over all rows and layouts
+    ghost lawful = { refl };
+
+    ghost regular = { refl };
+
+    ghost paired = { refl };
+
+    ghost bare = { (refl, refl) };
+
+    ghost identified = { refl };
+
+    fn table() -> Table {
+        Table {
+            header: &HEADER,
+            detail: &DETAIL,
+            identifier: &["TSTMSG", "D", "01B", "UN", "EAN005"],
+        }
+    }
+}
+
 // The trial book: a small message whose user segments have one required element each.
-// Of all rows that may come directly after one row, no two different ones have the same tag.
+pub type TrialBook = TableBook<TrialTable>;
+
+// The book. Of all rows that may come directly after one row, no two different ones have the same tag.
 // It is clear: no two different rows of one tag can follow the same row, in messages of rows and so in messages.
-pub fn book() -> TableBook
-    ensures rows { ⟦<TableBook as Diagram>⟧.rows result ≡ trial_rows }
-    ensures layouts { ⟦<TableBook as Book>⟧.layouts result ≡ trial_layouts }
-    ensures identifier { ⟦<TableBook as Book>⟧.identifier result ≡ trial_identifier }
+pub fn book() -> TrialBook
+    ensures rows { ⟦<TrialBook as Diagram>⟧.rows result ≡ trial_rows }
+    ensures layouts { ⟦<TrialBook as Book>⟧.layouts result ≡ trial_layouts }
+    ensures identifier { ⟦<TrialBook as Book>⟧.identifier result ≡ trial_identifier }
     ensures followers { followers_differ trial_rows ≡ true }
     ensures diagram { ClearRows trial_rows }
     ensures clear { Clear trial_meaning }
 {
-    TableBook {
-        table: Table {
-            header: &HEADER,
-            detail: &DETAIL,
-            identifier: &["TSTMSG", "D", "01B", "UN", "EAN005"],
-        },
-    }
+    TableBook::new()
 }

@@ -14,7 +14,7 @@ pub type Element<'t> = Part<'t, Segment<'t>>;
 pub type Elements<'t> = Parts<'t, Segment<'t>>;
 
 impl<'t> Element<'t> {
-    // Its components.
+    // Its components. `few` is a clause, as of every cursor over parts.
     pub fn components(&self) -> Components<'t>
         ensures value { components_left result ≡ map (part self.now.marks) (components_of self.now) }
         ensures few { length (components_left result) + 1 < 2 ^ 64 }

@@ -46,7 +46,7 @@ impl<'t, W> Part<'t, W> {
         self.bytes
     }
 
-    // Its parts, divided by `divider`.
+    // Its parts, divided by `divider`. `few` is a clause and no ghost field: each step would have to prove that.
     pub(crate) fn parts<V>(&self, divider: Divider) -> Parts<'t, V>
         ensures value { parts_left result ≡ map (part self.now.marks) (pieces_of self.now divider) }
         ensures few { length (parts_left result) + 1 < 2 ^ 64 }

@@ -15,22 +15,22 @@ use syntax::marks::Marks;
 // Length and tag of a segment.
 #[derive(Clone, Copy, Drop)]
 pub struct Found {
-    // of the segment: a tag always has three letters
     pub length: usize,
+    // always three letters: a slice would be longer to say
     pub tag: [u8; 3],
 }
 
 // Where a scan stands in a segment: whether the next byte is protected, and the element and component it is in.
 #[derive(Clone, Copy, Drop)]
 pub struct Standing {
-    // a flag: no other value stands beside it
+    // a flag on which no other value hangs
     protected: bool,
     element: usize,
     component: usize,
 }
 
 impl Standing {
-    // The standing behind one byte more. Neither count passes the bytes that were scanned.
+    // The standing behind one byte more. The bound is no field of the type: it hangs on how many bytes the loop has passed.
     fn behind(self, b: u8, marks: Marks) -> Standing
         requires { (self.element + 1 < 2 ^ 64) × (self.component + 1 < 2 ^ 64) }
         ensures { result ≡ after marks self b }

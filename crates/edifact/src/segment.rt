@@ -9,13 +9,13 @@ use crate::element::{Element, Elements};
 use crate::part::Text;
 use syntax::marks::Marks;
 
-// A segment of a text. Only the cutter makes one.
+// A segment of a text. Only the cutter makes one. Contracts see it by `cut_of`: a struct that is Copy and borrows can't have a model.
 #[derive(Clone, Copy, Drop)]
 pub struct Segment<'t> {
     pub(crate) number: usize,
     pub(crate) first: usize,
     pub(crate) part: Text<'t>,
-    // always three letters
+    // always three letters: a slice would be longer to say
     pub(crate) tag: [u8; 3],
 }
 
@@ -62,7 +62,7 @@ impl<'t> Segment<'t> {
         self.part.marks
     }
 
-    // Its elements, the tag first.
+    // Its elements, the tag first. `few` is a clause, as of every cursor over parts.
     pub fn elements(&self) -> Elements<'t>
         ensures value { elements_left result ≡ map (part (cut_of self.now).marks) (elements_of self.now) }
         ensures few { length (elements_left result) + 1 < 2 ^ 64 }

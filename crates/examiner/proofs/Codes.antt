@@ -1,11 +1,20 @@
 -- The search through a code list.
-use Rattle.std.proofs.Common.{◌≡◌, ℕ, zero, suc, ◌+◌, ◌<◌, Bool, true, false, cond, ◌||◌, List, [], ◌∷◌, length, get_or, drop, sym, refl, ap, ◌∙◌, add-one, arith, drop-cons}
+use Rattle.std.proofs.Common.{◌≡◌, ℕ, zero, suc, ◌+◌, ◌<◌, Bool, true, false, cond, ◌||◌, List, [], ◌∷◌, length, get_or, drop, Some, None, Option, sym, refl, ap, ◌∙◌, add-one, arith, drop-cons}
 use Rattle.std.proofs.lemmas.List.{drop_all}
 use Rattle.std.proofs.lemmas.Option.{slice_get-get_or}
 use Rattle.std.specs.List.{slice_get, list_any, range_with_len}
+use Rattle.message.specs.Layouts.{Component, Layout, code_in, component_at, code_at}
 use Rattle.examiner.specs.declared.measure.Measure.{Measure}
 use Rattle.examiner.specs.Measuring.{spelled_in}
-use Rattle.examiner.specs.Checking.{spelled_at, among_in, listed_in}
+use Rattle.examiner.specs.Checking.{codes_of, codes_at, spelled_at, among_in, listed_in}
+
+-- the codes that a book tells by number are those of the list
+code_in_lem : (o : Option Component) (k : ℕ) → code_in o k ≡ slice_get (codes_of o) k
+code_in_lem None k = refl
+code_in_lem (Some r) k = refl
+
+pub code_at_lem : (ls : List Layout) (row e c k : ℕ) → code_at ls row e c k ≡ slice_get (codes_at ls row e c) k
+code_at_lem ls row e c k = code_in_lem (component_at ls row e c) k
 
 module _ (m : Measure) (codes : List (List ℕ)) where
   abbrev pub spelled : ℕ → Bool

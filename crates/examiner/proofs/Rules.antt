@@ -10,7 +10,7 @@ use Rattle.message.specs.declared.layout.ElementRule.{ElementRule}
 use Rattle.message.specs.Layouts.{Component, Element, Layout, all, status_of, of_class, size, within, short_word, letter_or_digit, code_rule, extent_rule, component_rule, fillable, element_rule, layout_rule, component_head, element_head, element_in, component_in, element_at, component_at}
 use Rattle.message.specs.Messages.{layout_of}
 use Rattle.syntax.specs.declared.marks.DecimalMark.TheVariants.{Point}
-use Rattle.examiner.specs.Checking.{ruled, rules_of, rules_at, codes_of, codes_at}
+use Rattle.examiner.specs.Checking.{ruled, codes_of, codes_at}
 
 all_nth : {X : Type 0} (p : X → Bool) (xs : List X) (i : ℕ) (x : X) → all p xs ≡ true → slice_get xs i ≡ Some x → p x ≡ true
 all_nth p [] i x h e = absurd (none-some x e)
@@ -42,36 +42,34 @@ element-parts el h =
     let c = and_parts (leb 1 n) (leb n 40) b.0 in
     (leb-true n 40 c.1, b.1)
 
--- what a book tells by number is of the lists
-element_told : (o : Option Layout) (e : ℕ) → element_in o e ≡ slice_get (layout_of o) e
-element_told None e = refl
-element_told (Some l) e = refl
+-- an element and a component that a book tells by number are of the lists, and so under their rules
+element_in_lem : (o : Option Layout) (e : ℕ) (el : Element) → ((l : Layout) → o ≡ Some l → layout_rule l ≡ true) → element_in o e ≡ Some el → (e < 40) × (element_rule el ≡ true)
+element_in_lem None e el h k = absurd (none-some el k)
+element_in_lem (Some l) e el h k =
+    let a = and_parts (leb (length l) 40) (all element_rule l) (h l refl) in
+    (omega (arith, slice_get_within l e el k, leb-true (length l) 40 a.0), all_nth element_rule l e el a.1 k)
 
-component_told : (o : Option Element) (c : ℕ) → component_in o c ≡ slice_get (rules_of o) c
-component_told None c = refl
-component_told (Some el) c = refl
-
-rules_lawful : (o : Option Element) → ((el : Element) → o ≡ Some el → element_rule el ≡ true) → (length (rules_of o) ≤ 40) × (all component_rule (rules_of o) ≡ true)
-rules_lawful None h = (omega arith, refl)
-rules_lawful (Some el) h = element-parts el (h el refl)
+component_in_lem : (o : Option Element) (c : ℕ) (r : Component) → ((el : Element) → o ≡ Some el → element_rule el ≡ true) → component_in o c ≡ Some r → component_rule r ≡ true
+component_in_lem None c r h k = absurd (none-some r k)
+component_in_lem (Some el) c r h k = all_nth component_rule el.components c r (element-parts el (h el refl)).1 k
 
 module _ (ls : List Layout) (regular : all layout_rule ls ≡ true) (row : ℕ) where
-  layout_lawful : (length (layout_of (slice_get ls row)) ≤ 40) × (all element_rule (layout_of (slice_get ls row)) ≡ true)
-  layout_lawful = at (slice_get ls row) (λ l e. all_nth layout_rule ls row l regular e)
-    where
-      at : (o : Option Layout) → ((l : Layout) → o ≡ Some l → layout_rule l ≡ true) → (length (layout_of o) ≤ 40) × (all element_rule (layout_of o) ≡ true)
-      at None h = (omega arith, refl)
-      at (Some l) h = let a = and_parts (leb (length l) 40) (all element_rule l) (h l refl) in (leb-true (length l) 40 a.0, a.1)
+  lawful : (l : Layout) → slice_get ls row ≡ Some l → layout_rule l ≡ true
+  lawful l k = all_nth layout_rule ls row l regular k
 
   -- a row has at most 40 elements
   pub few-elements : length (layout_of (slice_get ls row)) ≤ 40
-  few-elements = layout_lawful.0
+  few-elements = at (slice_get ls row) lawful
+    where
+      at : (o : Option Layout) → ((l : Layout) → o ≡ Some l → layout_rule l ≡ true) → length (layout_of o) ≤ 40
+      at None h = omega arith
+      at (Some l) h = leb-true (length l) 40 (and_parts (leb (length l) 40) (all element_rule l) (h l refl)).0
 
-  element_lawful : (e : ℕ) (el : Element) → element_at ls row e ≡ Some el → element_rule el ≡ true
-  element_lawful e el k = all_nth element_rule (layout_of (slice_get ls row)) e el layout_lawful.1 (sym (element_told (slice_get ls row) e) ∙ k)
+  pub element_rule_lem : (e : ℕ) (el : Element) → element_at ls row e ≡ Some el → (e < 40) × (element_rule el ≡ true)
+  element_rule_lem e el k = element_in_lem (slice_get ls row) e el lawful k
 
-  components_lawful : (e : ℕ) → (length (rules_at ls row e) ≤ 40) × (all component_rule (rules_at ls row e) ≡ true)
-  components_lawful e = rules_lawful (element_at ls row e) (λ el k. element_lawful e el k)
+  pub component_rule_lem : (e c : ℕ) (r : Component) → component_at ls row e c ≡ Some r → component_rule r ≡ true
+  component_rule_lem e c r k = component_in_lem (element_at ls row e) c r (λ el x. (element_rule_lem e el x).1) k
 
   -- an element that a book tells
   pub element_bounds : (e : ℕ) (rule : ElementRule) → Some rule ≡ option_map element_head (element_at ls row e) → (e < 40) × (rule.components ≤ 40)
@@ -80,10 +78,9 @@ module _ (ls : List Layout) (regular : all layout_rule ls ≡ true) (row : ℕ) 
       at : (o : Option Element) → element_at ls row e ≡ o → Some rule ≡ option_map element_head o → (e < 40) × (rule.components ≤ 40)
       at None k x = absurd (none-some rule (sym x))
       at (Some el) k x =
-          let same : rule ≡ element_head el = cc in (
-            omega (arith, slice_get_within (layout_of (slice_get ls row)) e el (sym (element_told (slice_get ls row) e) ∙ k), layout_lawful.0),
-            omega (arith, ap (λ (r : ElementRule). r.components) same, (element-parts el (element_lawful e el k)).0),
-          )
+          let same : rule ≡ element_head el = cc in
+          let told = element_rule_lem e el k in
+          (told.0, omega (arith, ap (λ (r : ElementRule). r.components) same, (element-parts el told.1).0))
 
   -- a component that a book tells, with its codes
   pub component_lawful : (e c : ℕ) (rule : ComponentRule) → Some rule ≡ option_map component_head (component_at ls row e c) → component_rule (ruled rule (codes_at ls row e c)) ≡ true
@@ -93,7 +90,7 @@ module _ (ls : List Layout) (regular : all layout_rule ls ≡ true) (row : ℕ) 
       at None k x = absurd (none-some rule (sym x))
       at (Some r) k x =
           let same : rule ≡ component_head r = cc in
-          ap (λ (y : ComponentRule). component_rule (ruled y r.codes)) same ∙ all_nth component_rule (rules_at ls row e) c r (components_lawful e).1 (sym (component_told (element_at ls row e) c) ∙ k)
+          ap (λ (y : ComponentRule). component_rule (ruled y r.codes)) same ∙ component_rule_lem e c r k
 
 -- a code has at most 17 letters
 code_short : (r : Component) (code : List ℕ) → code_rule r code ≡ true → length code ≤ 17

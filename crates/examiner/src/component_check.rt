@@ -48,13 +48,9 @@ impl<'b, B: Book> ComponentLayout<'b, B> {
     fn has_code(&self, number: usize, measure: &Measure) -> bool
         ensures { result ≡ spelled_at (slice_get self.now.component.codes number) measure.now }
     {
-        match self
-            .book
+        self.book
             .code(self.row, self.element, self.component, number)
-        {
-            Some(code) => measure.spells(code),
-            None => false,
-        }
+            .is_some_and(|code| measure.spells(code))
     }
 
     // Whether the characters are one of its codes, or it has none.

@@ -210,7 +210,7 @@ impl<'b, B: Book> RowLayout<'b, B> {
     {
         let mut parts = parts;
         let mut number = 0;
-        // the number is asked for behind the loop too, where no element is left to tell it
+        // no `for`: a book doesn't tell how many elements a row has, and the number is asked for behind the last one
         while let Some(element) = self.element(number) {
             parts.enter();
             if let Some(fault) = element.fault(&mut parts) {

@@ -23,18 +23,18 @@ pub enum Numeral {
 }
 
 // What is known of the characters: how many they are, those past the 17th too, and how many of them are digits, whether all are letters or spaces, how far they are a number, and the first 17 of them.
-#[derive(Drop)]
+#[derive(Clone, Drop)]
 pub struct Measure {
     pub count: usize,
     pub digits: usize,
-    // a flag: no other value stands beside it
+    // a flag on which no other value hangs
     pub alphabetic: bool,
     pub numeral: Numeral,
     pub letters: ArrayVec<u8, 17>,
 }
 
 // What the first component of some bytes is: the measure of its characters, and how many bytes it has.
-#[derive(Drop)]
+#[derive(Clone, Drop)]
 pub struct Stretch {
     pub measure: Measure,
     pub length: usize,
@@ -55,7 +55,7 @@ fn with_digit(n: usize, c: u8) -> usize
     n * 10 + usize::from(c.saturating_sub(b'0'))
 }
 
-// The value of at most 17 digits.
+// The value of at most 17 digits. By hand: they are bytes, of which only the digits' value counts, and `parse` takes a &str.
 #[tactic(auto, using(crate::proofs::Values::value_steps))]
 fn value(digits: &[u8]) -> usize
     requires { size digits.now ≤ 17 }
@@ -88,10 +88,7 @@ impl Numeral {
     fn is_complete(self) -> bool
         ensures { result ≡ complete self }
     {
-        match self {
-            Numeral::Whole | Numeral::Fraction => true,
-            Numeral::Nothing | Numeral::Minus | Numeral::Mark | Numeral::Wrong => false,
-        }
+        matches!(self, Numeral::Whole | Numeral::Fraction)
     }
 }
 
@@ -183,7 +180,7 @@ impl Measure {
 #[derive(Drop)]
 struct Scan {
     measure: Measure,
-    // a flag: no other value stands beside it
+    // a flag on which no other value hangs
     protected: bool,
 }
 

@@ -16,14 +16,6 @@ pub part-lines : (line : ℕ → Part → List ℕ) (m : Marks) (n : ℕ) (bs : 
 part-lines line m n [] = refl
 part-lines line m n (b ∷ bs) = ap (λ x. line n (part m b) ++ x) (part-lines line m (n + 1) bs)
 
--- one thing more
-pub lines_more : {X : Type 0} (line : ℕ → X → List ℕ) (n : ℕ) (out next all : List ℕ) (x : X) (before after : List X) → before ≡ x ∷ after →
-    out ++ lines line n before ≡ all → next ≡ out ++ line n x → next ++ lines line (n + 1) after ≡ all
-lines_more line n out next all x before after eb inv en =
-    ap (λ y. y ++ lines line (n + 1) after) en
-    ∙ append_assoc out (line n x) (lines line (n + 1) after)
-    ∙ sym (ap (λ y. out ++ lines line n y) eb) ∙ inv
-
 -- nothing more: all parts are written
 pub parts-written : (line : ℕ → Part → List ℕ) (m : Marks) (n k : ℕ) (out was : List ℕ) (left start : List Part) (bs : List (List ℕ)) → left ≡ [] →
     out ++ lines line n left ≡ was ++ lines line k start → start ≡ map (part m) bs → out ≡ was ++ lines (λ i b. line i (part m b)) k bs

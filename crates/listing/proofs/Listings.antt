@@ -46,11 +46,10 @@ listed_more shown was out next count number whole before after s e h en ek =
       stops = sym (ap (λ c. c.fault) e) ∙ h.stops;
     }
 
--- where nothing is left, all is written
-pub listed-whole : (shown : Cut → List ℕ) (was out : List ℕ) (count : ℕ) (whole left : Cutting) (f : Option CutFault) → f ≡ left.fault → left.segments ≡ [] → Listed shown was out count whole left →
-    (count ≡ length whole.segments) × (f ≡ whole.fault) × (out ≡ was ++ lines (λ _ s. shown s) 1 whole.segments)
-listed-whole shown was out count whole left f ef e h = (
+-- where nothing is left, the whole is written
+pub listed_whole : (shown : Cut → List ℕ) (was out : List ℕ) (count : ℕ) (whole left : Cutting) (f : Option CutFault) → left.segments ≡ [] → f ≡ left.fault → Listed shown was out count whole left →
+    (count ≡ length whole.segments) × ((f ≡ whole.fault) × (out ≡ was ++ lines (λ _ s. shown s) 1 whole.segments))
+listed_whole shown was out count whole left f e ef h = (
   omega (arith, h.counted, ap length e),
-  ef ∙ h.stops,
-  sym (ap (λ ss. out ++ lines (λ _ s. shown s) 1 ss) e ∙ append-nil out) ∙ h.written,
+  (ef ∙ h.stops, sym (ap (λ ss. out ++ lines (λ _ s. shown s) 1 ss) e ∙ append-nil out) ∙ h.written),
 )

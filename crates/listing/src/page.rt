@@ -18,6 +18,24 @@ impl Model for Page {
     ghost view = { λ page. page.bytes.items };
 }
 
+// A page that begins with these bytes.
+impl From<Vec<u8>> for Page {
+    ghost from_gives = { λ bytes page. page ≡ bytes.items };
+
+    fn from(bytes: Vec<u8>) -> Page {
+        Page { bytes }
+    }
+}
+
+// Its bytes, for whoever goes on with them.
+impl From<Page> for Vec<u8> {
+    ghost from_gives = { λ page bytes. bytes.items ≡ page };
+
+    fn from(full: Page) -> Vec<u8> {
+        full.bytes
+    }
+}
+
 impl Page {
     pub fn new(heap: Global) -> Page
         ensures { result ≡ [] }

@@ -66,26 +66,25 @@ pub fn push_segment<F: TextForm>(page: &mut Page, segment: &Segment<'_>) -> Resu
     push_elements::<F>(page, segment)
 }
 
-// Lists the segments of a text; answers how many there are, and the fault at which it is stopped.
+// The segments of a text; answers how many there are, and the fault at which the text is stopped.
 fn push_segments<F: TextForm>(
     page: &mut Page,
     text: &[u8],
 ) -> Result<(usize, Option<CutFault>), AllocError>
-    ensures { IfOk result (λ r. (r.0 ≡ length (cut text.now).segments) × (r.1 ≡ (cut text.now).fault) × (page.new ≡ page.old ++ lines (λ _ s. F.shown_head s ++ lines (F.shown_element s.marks) 1 (others_of (elements_in s.marks s.bytes))) 1 (cut text.now).segments)) }
+    ensures { IfOk result (λ r. (r.0 ≡ length (cut text.now).segments) × ((r.1 ≡ (cut text.now).fault) × (page.new ≡ page.old ++ lines (λ _ s. F.shown_head s ++ lines (F.shown_element s.marks) 1 (others_of (elements_in s.marks s.bytes))) 1 (cut text.now).segments))) }
 {
     let mut cutter = Cutter::new(text);
     let mut count = 0;
-    let fault = loop {
+    loop {
         match cutter.next() {
             Ok(Some(segment)) => {
                 push_segment::<F>(page, &segment)?;
                 count = segment.number();
             }
-            Ok(None) => break None,
-            Err(fault) => break Some(fault),
+            Ok(None) => return Ok((count, None)),
+            Err(fault) => return Ok((count, Some(fault))),
         }
-    };
-    Ok((count, fault))
+    }
 }
 
 // Lists a text under a name; answers the fault at which it is stopped.
@@ -94,8 +93,7 @@ pub fn push_text<F: TextForm>(
     name: &str,
     text: &[u8],
 ) -> Result<Option<CutFault>, AllocError>
-    ensures fault { IfOk result (λ f. f ≡ (cut text.now).fault) }
-    ensures listing { IfOk result (λ f. page.new ≡ page.old ++ F.shown name.now text.now) }
+    ensures { IfOk result (λ f. (f ≡ (cut text.now).fault) × (page.new ≡ page.old ++ F.shown name.now text.now)) }
 {
     F::push_name(page, name)?;
     let (count, fault) = push_segments::<F>(page, text)?;

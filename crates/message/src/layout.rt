@@ -61,7 +61,8 @@ pub struct ElementRule {
     pub components: usize,
 }
 
-// What a book tells of a component, with how many codes its list has. No Option: a list without codes binds nothing, as none does.
+// What a book tells of a component: its status letter as a letter, a rule of the project, and how many codes its list has.
+// No Option for these: a list without codes binds nothing, as none does.
 #[derive(Clone, Copy, PartialEq, Eq, Debug, Drop)]
 pub struct ComponentRule {
     pub class: Class,
@@ -77,7 +78,7 @@ pub struct Spot {
     pub component: usize,
 }
 
-// Why a segment doesn't fit its row. Each case has its spot and its number: a rule of the project.
+// Why a segment doesn't fit its row. Each case has a number, a rule of the project, and its spot: as plain as a struct of both.
 #[derive(Clone, Copy, PartialEq, Eq, Debug, Drop)]
 pub enum SegmentFault {
     Beyond(Spot),
@@ -125,7 +126,7 @@ impl SegmentFault {
 }
 
 // The status that a letter means, if it is one.
-// No TryFrom: that the letter is a parameter is a rule of the project.
+// A function and no TryFrom: a rule of the project.
 pub fn status_of(letter: char) -> Option<Status>
     ensures { result ≡ status_of letter }
 {

@@ -22,6 +22,7 @@ pub enum Need {
 // A row. Need and limit of a trigger row are its group's.
 #[derive(Clone, Copy, Default, Drop)]
 pub struct Row {
+    // always three letters: a slice would be longer to say
     pub tag: [u8; 3],
     pub level: u8,
     pub kind: Kind,

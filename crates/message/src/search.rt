@@ -6,7 +6,7 @@ ghost use Rattle.message.specs.Searching.{state_of, lower_next, Finds, Closes};
 use crate::book::Diagram;
 use crate::open::{Next, Open};
 
-// The one with the lower row number, and `a` if both have the same. A match: no `Ord` of `Next` has this tie.
+// The one with the lower row number, and `a` if both have the same. A match: with `min_by_key` a goal stays open.
 fn lower_of(a: Option<Next>, b: Option<Next>) -> Option<Next>
     ensures { result ≡ lower_next a b }
 {
@@ -46,7 +46,7 @@ struct Closed<'h> {
     again: Option<Next>,
 }
 
-// Ends the open rows that end before a row of this depth, and finds those of them that may come again.
+// Ends the open rows that end before a row of this depth, and finds the lowest of those that may come again.
 fn close(held: &[Open], depth: usize, tag: [u8; 3]) -> Closed<'_>
     ensures { Closes held.now depth tag result.open.now result.again }
 {

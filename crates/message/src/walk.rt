@@ -62,6 +62,7 @@ impl<'d, D: Diagram> Walk<'d, D> {
     }
 
     // The number and the occurrence of the row that an offer of this tag would get: the lowest that can come next.
+    // They are a pair, here and in `offer`: a rule of the project.
     pub fn ask(&self, tag: [u8; 3]) -> Option<(usize, u32)>
         ensures { Asks D.Diagram.rows self.now tag result }
     {

@@ -60,12 +60,11 @@ fn list_all<F: TextForm>(rt: &HostRuntime, names: Vec<String>) -> anyhow::Result
 
 // Lists the book that is asked.
 fn list_book<F: BookForm>(rt: &HostRuntime, which: Which, detail: Detail) -> anyhow::Result<()> {
-    let book = match which {
-        Which::Recadv => recadv::book(),
-        Which::Trial => trial::book(),
-    };
     let mut page = Page::new(rt.alloc());
-    push_book::<F, _>(&mut page, &book, detail)?;
+    match which {
+        Which::Recadv => push_book::<F, _>(&mut page, &recadv::book(), detail)?,
+        Which::Trial => push_book::<F, _>(&mut page, &trial::book(), detail)?,
+    }
     rt.stdout().write_all(page.as_slice())?;
     Ok(())
 }

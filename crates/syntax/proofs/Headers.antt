@@ -1,9 +1,9 @@
 -- The header of a text.
-use Rattle.std.proofs.Common.{◌≡◌, ℕ, ◌+◌, ◌-◌, ◌≤◌, true, cond, ◌&&◌, eqb, leb, List, length, get_or, take, drop, Some, None, Option, sym, ap, ◌∙◌, arith}
-use Rattle.std.proofs.lemmas.List.{take_rest, length-drop}
-use Rattle.std.proofs.lemmas.Bool.{and_from, and_parts, eq-eqb, le-leb, leb-true, cond_both, cond-true}
+use Rattle.std.proofs.Common.{◌≡◌, ℕ, ◌+◌, ◌≤◌, cond, ◌&&◌, eqb, leb, List, length, get_or, Some, None, sym, ap, ◌∙◌, arith}
+use Rattle.std.proofs.lemmas.List.{length-drop}
+use Rattle.std.proofs.lemmas.Bool.{and_parts, leb-true, cond_both, cond-true}
 use Rattle.syntax.specs.declared.marks.Marks.{Marks}
-use Rattle.syntax.specs.Marks.{has_header, header_length, marks_in, marks_of, body, usual}
+use Rattle.syntax.specs.Marks.{has_header, header_length, marks_in, marks_of, body}
 
 -- a text whose header is lawful has it whole
 pub header-whole : (text : List ℕ) (m : Marks) → marks_of text ≡ Some m → header_length text ≤ length text

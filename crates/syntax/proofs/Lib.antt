@@ -1,3 +1,4 @@
 pub mod Splits
+pub mod CharacterSteps
 pub mod Lawfulness
 pub mod Headers

@@ -22,7 +22,7 @@ pub fn is_line_break(b: u8) -> bool
 pub fn is_markable(b: u8) -> bool
     ensures { result ≡ markable b }
 {
-    b.is_ascii_graphic() && !b.is_ascii_alphanumeric() && b != b'-'
+    b.is_ascii_punctuation() && b != b'-'
 }
 
 // Whether `b` is a release mark that protects the next byte.

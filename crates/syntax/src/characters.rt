@@ -64,7 +64,7 @@ impl<'t> Iterator for Characters<'t> {
     }
 }
 
-// How many characters `bytes` has. It and the next take what `Characters::of` takes, and stay functions: they are thin over it.
+// How many characters `bytes` has. It and the next are thin over `Characters::of`, and take what it takes.
 pub fn character_count(bytes: &[u8], release: u8) -> usize
     ensures { result ≡ size (characters_in release false bytes.now) }
 {
@@ -75,7 +75,7 @@ pub fn character_count(bytes: &[u8], release: u8) -> usize
 pub fn same_characters(bytes: &[u8], release: u8, plain: &[u8]) -> bool
     ensures { result ≡ bytes_eq (characters_in release false bytes.now) plain.now }
 {
-    // a loop: `eq` over the two iterators leaves a goal
+    // a loop: with `Iterator::eq` the proof doesn't close
     let mut characters = Characters::of(bytes, release);
     for p in plain {
         if characters.next() != Some(*p) {

@@ -89,9 +89,8 @@ impl fmt::Display for CutFault {
 
     fn fmt<W: fmt::Write>(&self, f: &mut fmt::Formatter<W>) -> fmt::Result {
         match self {
-            CutFault::BadHeader => write!(
-                f,
-                "the header UNA has under nine bytes, no space before the terminator, or unlawful marks (refusal 1)"
+            CutFault::BadHeader => f.write_str(
+                "the header UNA has under nine bytes, no space before the terminator, or unlawful marks (refusal 1)",
             ),
             CutFault::ForbiddenByte(place) => write!(
                 f,

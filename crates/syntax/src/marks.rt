@@ -86,34 +86,35 @@ impl Marks {
                     && (is_other(r, [c, e, d, t]) && is_other(t, [c, e, d, r]))))
     }
 
+    // What divides bytes at one of these marks.
+    fn divider(&self, mark: u8) -> Divider
+        ensures { result ≡ record { release = self.now.release; mark = mark } }
+    {
+        Divider {
+            release: self.release,
+            mark,
+        }
+    }
+
     // What divides a text into segments.
     pub fn segments(&self) -> Divider
         ensures { result ≡ record { release = self.now.release; mark = self.now.terminator } }
     {
-        Divider {
-            release: self.release,
-            mark: self.terminator,
-        }
+        self.divider(self.terminator)
     }
 
     // What divides a segment into elements.
     pub fn elements(&self) -> Divider
         ensures { result ≡ record { release = self.now.release; mark = self.now.element } }
     {
-        Divider {
-            release: self.release,
-            mark: self.element,
-        }
+        self.divider(self.element)
     }
 
     // What divides an element into components.
     pub fn components(&self) -> Divider
         ensures { result ≡ record { release = self.now.release; mark = self.now.component } }
     {
-        Divider {
-            release: self.release,
-            mark: self.component,
-        }
+        self.divider(self.component)
     }
 }
 

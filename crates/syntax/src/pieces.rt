@@ -58,6 +58,7 @@ pub struct Pieces<'t> {
 }
 
 impl<'t> Pieces<'t> {
+    // All of them. `few` is a clause and no ghost field, since each step of the cursor would have to prove that again.
     pub fn of(bytes: &'t [u8], divider: Divider) -> Pieces<'t>
         ensures value { pieces_left result ≡ split divider.release divider.mark false bytes.now }
         ensures few { length (pieces_left result) + 1 < 2 ^ 64 }
@@ -90,7 +91,7 @@ fn nth_piece<'t>(mut pieces: Pieces<'t>, number: usize) -> Option<&'t [u8]>
     pieces.nth(number)
 }
 
-// The piece of that number, from 0.
+// The piece of that number, from 0. It and the next are thin over `Pieces::of`, and take what it takes.
 pub fn piece<'t>(bytes: &'t [u8], divider: Divider, number: usize) -> Option<&'t [u8]>
     ensures { option_map (λ x. x.now) result ≡ slice_get (split divider.release divider.mark false bytes.now) number }
 {

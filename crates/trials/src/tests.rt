@@ -40,6 +40,18 @@ fn page_holds_what_is_pushed(rt: HostRuntime) -> Result<(), Fail> {
     Ok(())
 }
 
+// A page begins with the bytes that it is made of, and gives its bytes back.
+#[test]
+fn page_goes_on_with_bytes(rt: HostRuntime) -> Result<(), Fail> {
+    let mut bytes = Vec::new(rt.alloc());
+    bytes.extend_from_slice(b"ab")?;
+    let mut page = Page::from(bytes);
+    page.push(b'c')?;
+    let whole = Vec::from(page);
+    assert!(rt; whole.as_slice() == b"abc".as_slice());
+    Ok(())
+}
+
 // A segment of a page in either form.
 #[test]
 fn segment_on_a_page(rt: HostRuntime) -> Result<(), Fail> {

@@ -114,7 +114,8 @@ pub fn write_walk<D: Diagram>(out: &mut Vec<u8>, diagram: &D, list: &TagList) ->
     write_end(out, &walk)
 }
 
-// The tags of a text's segments, up to the first that can't be cut.
+// The tags of a text's segments, up to the first that can't be cut. Not one function with the last over an iterator
+// of tags: the cutter is none, since it answers a `Result`, and `iter::from_fn` over it isn't known to end.
 pub fn write_text_walk<D: Diagram>(
     out: &mut Vec<u8>,
     diagram: &D,

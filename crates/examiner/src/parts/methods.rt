@@ -44,10 +44,7 @@ impl<'t> Parts<'t> {
         ensures more { result ≡ has_more self.now.current }
         ensures few { length self.now.current < 2 ^ 63 + 1 }
     {
-        match self.ahead {
-            Ahead::Component(_) => true,
-            Ahead::Element(_) | Ahead::Nothing => false,
-        }
+        matches!(self.ahead, Ahead::Component(_))
     }
 
     // Measures the next component of the element, or an empty one if it has none.
@@ -71,6 +68,7 @@ impl<'t> Parts<'t> {
     pub fn leave(&mut self)
         ensures { self.new ≡ record self.old { current = [] } }
     {
+        // plainer than a `for` over itself that throws its items away
         while self.has_component() {
             self.measure();
         }

@@ -1,6 +1,6 @@
-use Rattle.std.proofs.Common.{◌≡◌, ℕ, ◌+◌, List, [], ◌∷◌, ◌++◌, sym, ap, ◌∙◌, append_assoc, append-nil}
+use Rattle.std.proofs.Common.{◌≡◌, ℕ, List, ◌++◌, sym, ap, ◌∙◌, append-nil}
 use Rattle.message.specs.Layouts.{component_at}
-use Rattle.booklist.specs.Form.{codes_text, component_lines, components_text}
+use Rattle.booklist.specs.Form.{component_lines, components_text}
 use Rattle.booklist.proofs.Numbered.{numbered-more, component-shown, component-absent}
 use Rattle.booklist.proofs.form.push_components.Goals as goal
 use Rattle.booklist.proofs.form.push_components.Goals.{in-Some+in_ok-push_component_line, in_default}

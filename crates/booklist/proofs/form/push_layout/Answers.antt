@@ -1,6 +1,6 @@
-use Rattle.std.proofs.Common.{◌≡◌, ℕ, ◌+◌, List, ◌++◌, sym, ap, ◌∙◌, append_assoc, append-nil}
+use Rattle.std.proofs.Common.{◌≡◌, ℕ, List, ◌++◌, sym, ap, ◌∙◌, append-nil}
 use Rattle.message.specs.Layouts.{element_at}
-use Rattle.booklist.specs.Form.{components_text, element_lines, layout_text}
+use Rattle.booklist.specs.Form.{element_lines, layout_text}
 use Rattle.booklist.proofs.Numbered.{numbered-more, element-shown, element-absent}
 use Rattle.booklist.proofs.form.push_layout.Goals as goal
 use Rattle.booklist.proofs.form.push_layout.Goals.{in-Some+in_ok-push_element_lines, in_default}
