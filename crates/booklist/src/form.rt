@@ -78,9 +78,10 @@ pub fn push_codes<B: Book>(
     ensures { OnOk result (page.new ≡ page.old ++ codes_text (B.Book.layouts book.now) n e c count) }
 {
     for k in 0..count {
-        if let Some(code) = book.code(n, e, c, k) {
-            push_code(page, k, code)?;
-        }
+        let Some(code) = book.code(n, e, c, k) else {
+            break;
+        };
+        push_code(page, k, code)?;
     }
     Ok(())
 }
@@ -145,9 +146,10 @@ pub fn push_layout<F: BookForm, B: Book>(
     ensures { OnOk result (page.new ≡ page.old ++ layout_text F.shown_element F.shown_component (B.Book.layouts book.now) n) }
 {
     for e in 0..MOST_ELEMENTS {
-        if let Some(rule) = book.element(n, e) {
-            push_element_lines::<F, B>(page, book, n, e, rule)?;
-        }
+        let Some(rule) = book.element(n, e) else {
+            break;
+        };
+        push_element_lines::<F, B>(page, book, n, e, rule)?;
     }
     Ok(())
 }

@@ -8,6 +8,7 @@ ghost use Rattle.books.specs.Recadv.{recadv_rows, recadv_layouts, recadv_identif
 
 use crate::tables::{BuiltIn, RowLine, Table, TableBook, an, element, num, row};
 use message::book::{Book, Diagram};
+use std::marker::PhantomData;
 
 // The header section.
 static HEADER: [RowLine; 14] = [
@@ -414,6 +415,9 @@ impl BuiltIn for RecadvTable {
 // The receiving advice RECADV, EANCOM 2002, version 005, directory D.01B.
 pub type Recadv = TableBook<RecadvTable>;
 
+// The book as a value, which a constant can be too and a walk can borrow for good.
+pub const Recadv: Recadv = TableBook { of: PhantomData };
+
 // The book. Of all rows that may come directly after one row, no two different ones have the same tag.
 // It is clear: no two different rows of one tag can follow the same row, in messages of rows and so in messages.
 // The guideline's example of each row fits that row.
@@ -426,5 +430,5 @@ pub fn book() -> Recadv
     ensures clear { Clear recadv }
     ensures examples { examples_fit ≡ true }
 {
-    TableBook::new()
+    Recadv
 }

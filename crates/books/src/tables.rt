@@ -103,13 +103,7 @@ pub trait BuiltIn {
 // A built-in book. It holds nothing: its type says which table it tells.
 #[derive(Clone, Copy, Drop)]
 pub struct TableBook<T> {
-    of: PhantomData<T>,
-}
-
-impl<T> TableBook<T> {
-    pub(crate) fn new() -> TableBook<T> {
-        TableBook { of: PhantomData }
-    }
+    pub(crate) of: PhantomData<T>,
 }
 
 impl<T: BuiltIn> Diagram for TableBook<T> {

@@ -7,6 +7,7 @@ ghost use Rattle.books.specs.Trial.{trial_rows, trial_layouts, trial_identifier,
 
 use crate::tables::{BuiltIn, RowLine, Table, TableBook, an, element, row};
 use message::book::{Book, Diagram};
+use std::marker::PhantomData;
 
 // The header section.
 static HEADER: [RowLine; 6] = [
@@ -105,6 +106,9 @@ impl BuiltIn for TrialTable {
 // The trial book: a small message whose user segments have one required element each.
 pub type TrialBook = TableBook<TrialTable>;
 
+// The book as a value, which a constant can be too and a walk can borrow for good.
+pub const TrialBook: TrialBook = TableBook { of: PhantomData };
+
 // The book. Of all rows that may come directly after one row, no two different ones have the same tag.
 // It is clear: no two different rows of one tag can follow the same row, in messages of rows and so in messages.
 pub fn book() -> TrialBook
@@ -115,5 +119,5 @@ pub fn book() -> TrialBook
     ensures diagram { ClearRows trial_rows }
     ensures clear { Clear trial_meaning }
 {
-    TableBook::new()
+    TrialBook
 }

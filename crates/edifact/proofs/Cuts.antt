@@ -56,7 +56,7 @@ cut_open m k at n bs e h some =
     ∙ ap (λ t. pushed m k at bs (judged m k t bs) ended) (sym (le-ltb n (length bs) h))
     ∙ ap (λ x. pushed m k at bs (judged m k (ltb n (length bs)) x) ended) (sym (take_all n bs h))
 
-cut_err : (m : Marks) (k at : ℕ) (bs : List ℕ) (f : CutFault) → 0 < length bs → segment_in m k bs ≡ Err f → cut_from m k at bs ≡ stopped f
+pub cut_err : (m : Marks) (k at : ℕ) (bs : List ℕ) (f : CutFault) → 0 < length bs → segment_in m k bs ≡ Err f → cut_from m k at bs ≡ stopped f
 cut_err m k at bs f some e =
     let n : ℕ = reach m.release m.terminator false bs in
     let v = found-fault n (judged m k (ltb n (length bs)) (take n bs)) f e in
@@ -64,7 +64,7 @@ cut_err m k at bs f some e =
     (λ h. cut-ended m k at n bs refl h ∙ ap (λ x. pushed m k at (take n bs) x (behind m k at (take n bs) (pieces_behind m n bs))) v)
     (λ h. cut_open m k at n bs refl h some ∙ ap (λ x. pushed m k at bs x ended) v) (cases_lt n (length bs))
 
-cut_ok : (m : Marks) (k at : ℕ) (bs : List ℕ) (x : Found) → lawful m ≡ true → segment_in m k bs ≡ Ok x → x.length < length bs →
+pub cut_ok : (m : Marks) (k at : ℕ) (bs : List ℕ) (x : Found) → lawful m ≡ true → segment_in m k bs ≡ Ok x → x.length < length bs →
     cut_from m k at bs ≡ push (record { marks = m; number = k; first = at; bytes = take x.length bs; tag = x.tag })
     (cut_from m (k + 1) (at + (x.length + 1 + break_run (drop (x.length + 1) bs))) (drop (break_run (drop (x.length + 1) bs)) (drop (x.length + 1) bs)))
 cut_ok m k at bs x law e h =
@@ -98,7 +98,7 @@ first-closed m n bs e h =
     of_two (q ∷ qs) some h = h.0
 
 -- the segment that is found is cut
-next-cut : (m : Marks) (k at : ℕ) (bs p : List ℕ) (x : Found) → lawful m ≡ true → Ok x ≡ segment_in m k bs → x.length < length bs → p ≡ take x.length bs →
+pub next-cut : (m : Marks) (k at : ℕ) (bs p : List ℕ) (x : Found) → lawful m ≡ true → Ok x ≡ segment_in m k bs → x.length < length bs → p ≡ take x.length bs →
     IsCut (record { marks = m; number = k; first = at; bytes = p; tag = x.tag })
 next-cut m k at bs p x law e h ep =
     let n : ℕ = x.length in

@@ -9,3 +9,4 @@ pub mod Spelling
 pub mod Numbers
 pub mod Steps
 pub mod Trials
+pub mod Undivided

@@ -1,12 +1,12 @@
 // A part of a text, and the cursor over the parts of such a part.
-ghost use Rattle.std.specs.Prelude.{◌≡◌, ◌+◌, ◌^◌, ◌<◌, map, length};
+ghost use Rattle.std.specs.Prelude.{◌≡◌, ◌==◌, ◌+◌, ◌^◌, ◌<◌, map, length};
 ghost use Rattle.std.specs.List.{slice_get};
 ghost use Rattle.std.specs.Iterator.{YieldsFirstBy, item_count};
 ghost use Rattle.edifact.specs.Cursors.{part, part_of, parts_left, pieces_of, FindsPart};
 
 use std::marker::PhantomData;
 use syntax::marks::Marks;
-use syntax::pieces::{Divider, Pieces, piece, piece_count};
+use syntax::pieces::{Divider, Pieces, first_piece, piece, piece_count};
 
 // A part of a `W`: its bytes, and the marks of its text.
 #[derive(Clone, Copy, Drop)]
@@ -63,6 +63,13 @@ impl<'t, W> Part<'t, W> {
         ensures { result ≡ length (pieces_of self.now divider) }
     {
         piece_count(self.bytes, divider)
+    }
+
+    // Whether it has one alone. The bytes behind its first mark aren't read.
+    pub(crate) fn is_undivided(&self, divider: Divider) -> bool
+        ensures { result ≡ (length (pieces_of self.now divider) == 1) }
+    {
+        first_piece(self.bytes, divider) == self.bytes.len()
     }
 
     // The one of that number, from 0.

@@ -117,7 +117,7 @@ impl<'t> Text<'t> {
         ensures { result ≡ tag_of self.now.marks self.now.bytes.now }
     {
         let element: Element<'t> = self.part(self.marks.elements(), 0)?;
-        if element.component_count() != 1 {
+        if !element.is_undivided(self.marks.components()) {
             return None;
         }
         tag_in(Characters::of(element.bytes, element.marks.release))

@@ -1,8 +1,7 @@
 -- A measure tells of its characters what the layout check asks.
-use Rattle.std.proofs.Common.{◌≡◌, ℕ, suc, ◌+◌, ◌≤◌, Bool, true, false, cond, ◌&&◌, eqb, ltb, leb, List, [], ◌∷◌, ◌++◌, length, take, sym, refl, ap, ◌∙◌, arith}
-use Rattle.std.proofs.lemmas.List.{append-nil, append_assoc, take_all}
-use Rattle.std.proofs.lemmas.Grind.{common_steps}
-use Rattle.std.proofs.lemmas.Bool.{cond_both, ne_eqb, leb-true, eqb-true, eqb-false, and_parts}
+use Rattle.std.proofs.Common.{◌≡◌, ℕ, zero, suc, ◌+◌, ◌≤◌, Bool, true, false, cond, ◌&&◌, eqb, ltb, leb, List, [], ◌∷◌, ◌++◌, length, take, set, sym, refl, ap, ◌∙◌, arith}
+use Rattle.std.proofs.lemmas.List.{append-nil, append_assoc, length_push}
+use Rattle.std.proofs.lemmas.Bool.{cond_both, ne_eqb, le-leb, leb-true, eqb-true, eqb-false, ltb-false, and_parts}
 use Rattle.std.proofs.lemmas.Bool.Decides.{nat_tests}
 use Rattle.std.specs.Str.{bytes_eq}
 use Rattle.syntax.specs.declared.marks.DecimalMark.{DecimalMark}
@@ -104,24 +103,45 @@ size-measured Alphanumeric d cs = count_measured d cs
 
 -- Letters
 
-kept-take : (n : ℕ) (ps : List ℕ) (c : ℕ) → cond (ltb (length (take n ps)) n) (take n ps ++ c ∷ []) (take n ps) ≡ take n (ps ++ c ∷ [])
-kept-take n ps c =
-    cond_both (ltb (length (take n ps)) n) (take n ps ++ c ∷ []) (take n ps) (λ x. x ≡ take n (ps ++ c ∷ []))
-    (λ e. grind (arith, common_steps))
-    (λ e. grind (arith, common_steps))
+-- the first n characters, with zeros behind
+abbrev pub padded : ℕ → List ℕ → List ℕ
+padded zero cs = []
+padded (suc n) [] = 0 ∷ padded n []
+padded (suc n) (c ∷ cs) = c ∷ padded n cs
 
-letters_of_lem : (d : DecimalMark) (m : Measure) (ps cs : List ℕ) → m.letters.items ≡ take 17 ps → (measured d m cs).letters.items ≡ take 17 (ps ++ cs)
-letters_of_lem d m ps [] l = l ∙ ap (take 17) (sym (append-nil ps))
-letters_of_lem d m ps (c ∷ cs) l =
-    letters_of_lem d (grown d m c) (ps ++ c ∷ []) cs (ap (λ x. kept x c) l ∙ kept-take 17 ps c)
-    ∙ ap (take 17) (append_assoc ps (c ∷ []) cs)
+padded_set : (n : ℕ) (ps : List ℕ) (c : ℕ) → set (padded n ps) (length ps) c ≡ padded n (ps ++ c ∷ [])
+padded_set zero ps c = refl
+padded_set (suc n) [] c = refl
+padded_set (suc n) (p ∷ ps) c = ap (λ x. p ∷ x) (padded_set n ps c)
 
-pub letters-measured : (d : DecimalMark) (cs : List ℕ) → (measure_of d cs).letters.items ≡ take 17 cs
-letters-measured d cs = letters_of_lem d nothing [] cs refl
+padded_full : (n : ℕ) (ps qs : List ℕ) → n ≤ length ps → padded n ps ≡ padded n (ps ++ qs)
+padded_full zero ps qs h = refl
+padded_full (suc n) [] qs h = absurd (omega arith)
+padded_full (suc n) (p ∷ ps) qs h = ap (λ x. p ∷ x) (padded_full n ps qs (omega arith))
 
--- at most 17 characters are all kept
-pub letters_all : (d : DecimalMark) (cs : List ℕ) → length cs ≤ 17 → (measure_of d cs).letters.items ≡ cs
-letters_all d cs h = letters-measured d cs ∙ take_all 17 cs h
+kept-padded : (ps : List ℕ) (c : ℕ) → kept (padded 17 ps) (length ps) c ≡ padded 17 (ps ++ c ∷ [])
+kept-padded ps c =
+    cond_both (ltb (length ps) 17) (set (padded 17 ps) (length ps) c) (padded 17 ps) (λ x. x ≡ padded 17 (ps ++ c ∷ []))
+    (λ _. padded_set 17 ps c)
+    (λ e. padded_full 17 ps (c ∷ []) (ltb-false (length ps) 17 e))
+
+letters_of_lem : (d : DecimalMark) (m : Measure) (ps cs : List ℕ) → m.count ≡ length ps → m.letters ≡ padded 17 ps → (measured d m cs).letters ≡ padded 17 (ps ++ cs)
+letters_of_lem d m ps [] n l = l ∙ ap (padded 17) (sym (append-nil ps))
+letters_of_lem d m ps (c ∷ cs) n l =
+    letters_of_lem d (grown d m c) (ps ++ c ∷ []) cs (omega (arith, length_push ps c)) (ap (λ x. kept x m.count c) l ∙ ap (λ x. kept (padded 17 ps) x c) n ∙ kept-padded ps c)
+    ∙ ap (padded 17) (append_assoc ps (c ∷ []) cs)
+
+pub letters-measured : (d : DecimalMark) (cs : List ℕ) → (measure_of d cs).letters ≡ padded 17 cs
+letters-measured d cs = letters_of_lem d nothing [] cs refl refl
+
+take-padded : (n : ℕ) (cs : List ℕ) → length cs ≤ n → take (length cs) (padded n cs) ≡ cs
+take-padded n [] h = refl
+take-padded zero (c ∷ cs) h = absurd (omega arith)
+take-padded (suc n) (c ∷ cs) h = ap (λ x. c ∷ x) (take-padded n cs (omega arith))
+
+-- at most 17 characters can be read back
+pub letters-back : (d : DecimalMark) (cs : List ℕ) → length cs ≤ 17 → take (length cs) (measure_of d cs).letters ≡ cs
+letters-back d cs h = ap (take (length cs)) (letters-measured d cs) ∙ take-padded 17 cs h
 
 other_length : (xs ys : List ℕ) → (length xs ≡ length ys → ⊥) → false ≡ bytes_eq xs ys
 other_length [] [] h = absurd (h refl)
@@ -131,9 +151,12 @@ other_length (x ∷ xs) (y ∷ ys) h = elim (eqb x y) as (λ t. false ≡ (t && 
 
 pub spelled-measured : (d : DecimalMark) (word cs : List ℕ) → length word ≤ 17 → spelled_in word (measure_of d cs) ≡ bytes_eq word cs
 spelled-measured d word cs h =
-    ap (λ n. eqb (length word) n && bytes_eq word (measure_of d cs).letters.items) (count_measured d cs)
-    ∙ (elim (eqb (length word) (length cs)) as (λ t. eqb (length word) (length cs) ≡ t → (t && bytes_eq word (measure_of d cs).letters.items) ≡ bytes_eq word cs) [
-      | true ↦ λ e. let same : length word ≡ length cs = eqb-true (length word) (length cs) e in ap (bytes_eq word) (letters_all d cs (omega arith))
+    ap (λ t. (t && eqb (length word) (measure_of d cs).count) && bytes_eq word (take (length word) (measure_of d cs).letters)) (le-leb (length word) 17 h)
+    ∙ ap (λ n. eqb (length word) n && bytes_eq word (take (length word) (measure_of d cs).letters)) (count_measured d cs)
+    ∙ (elim (eqb (length word) (length cs)) as (λ t. eqb (length word) (length cs) ≡ t → (t && bytes_eq word (take (length word) (measure_of d cs).letters)) ≡ bytes_eq word cs) [
+      | true ↦ λ e.
+          let same : length word ≡ length cs = eqb-true (length word) (length cs) e in
+          ap (λ n. bytes_eq word (take n (measure_of d cs).letters)) same ∙ ap (bytes_eq word) (letters-back d cs (omega arith))
       | false ↦ λ e. other_length word cs (eqb-false (length word) (length cs) e)
     ]) refl
 
@@ -143,9 +166,9 @@ pub reference_measured : (d : DecimalMark) (cs : List ℕ) → reference_in (mea
 reference_measured d cs = ap (λ n. leb 1 n && leb n 14) (count_measured d cs)
 
 -- a reference can be read back from the letters
-pub reference_back : (d : DecimalMark) (cs : List ℕ) → is_reference cs ≡ true → (measure_of d cs).letters.items ≡ cs
+pub reference_back : (d : DecimalMark) (cs : List ℕ) → is_reference cs ≡ true → take (length cs) (measure_of d cs).letters ≡ cs
 reference_back d cs h =
-    letters_all d cs (omega (arith, leb-true (length cs) 14 (and_parts (leb 1 (length cs)) (leb (length cs) 14) h).1))
+    letters-back d cs (omega (arith, leb-true (length cs) 14 (and_parts (leb 1 (length cs)) (leb (length cs) 14) h).1))
 
 few-digits : (cs : List ℕ) → digit_count cs ≤ length cs
 few-digits [] = omega arith
@@ -170,8 +193,8 @@ and_swap false b b' h = refl
 
 pub number-measured : (n : ℕ) (d : DecimalMark) (cs : List ℕ) → count_in n (measure_of d cs) ≡ is_count n cs
 number-measured n d cs =
-    ap (λ k. leb 1 k && leb k 6 && eqb (measure_of d cs).digits k && eqb (value_of 0 (measure_of d cs).letters.items) n) (count_measured d cs)
-    ∙ ap (λ k. leb 1 (length cs) && leb (length cs) 6 && eqb k (length cs) && eqb (value_of 0 (measure_of d cs).letters.items) n) (digits-measured d cs)
-    ∙ ap (λ t. leb 1 (length cs) && leb (length cs) 6 && t && eqb (value_of 0 (measure_of d cs).letters.items) n) (all_digits cs)
+    ap (λ k. leb 1 k && leb k 6 && eqb (measure_of d cs).digits k && eqb (value_of 0 (take k (measure_of d cs).letters)) n) (count_measured d cs)
+    ∙ ap (λ k. leb 1 (length cs) && leb (length cs) 6 && eqb k (length cs) && eqb (value_of 0 (take (length cs) (measure_of d cs).letters)) n) (digits-measured d cs)
+    ∙ ap (λ t. leb 1 (length cs) && leb (length cs) 6 && t && eqb (value_of 0 (take (length cs) (measure_of d cs).letters)) n) (all_digits cs)
     ∙ and_swap (leb 1 (length cs) && leb (length cs) 6 && all digit cs) _ _
-    (λ h. ap (λ x. eqb (value_of 0 x) n) (letters_all d cs (omega (arith, leb-true (length cs) 6 (and_parts (leb 1 (length cs)) (leb (length cs) 6) (and_parts (leb 1 (length cs) && leb (length cs) 6) (all digit cs) h).0).1))))
+    (λ h. ap (λ x. eqb (value_of 0 x) n) (letters-back d cs (omega (arith, leb-true (length cs) 6 (and_parts (leb 1 (length cs)) (leb (length cs) 6) (and_parts (leb 1 (length cs) && leb (length cs) 6) (all digit cs) h).0).1))))

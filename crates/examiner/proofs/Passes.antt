@@ -66,7 +66,7 @@ fills-empty : (d : DecimalMark) (f : Option ℕ) (k : ℕ) → filled_by f k (me
 fills-empty d None k = refl
 fills-empty d (Some j) k = refl
 
-fills-step : (d : DecimalMark) (f : Option ℕ) (k : ℕ) (xs : List (List ℕ)) → option_or (filled_by f k (measure_of d (first xs))) (first_filled (k + 1) (others xs)) ≡ option_or f (first_filled k xs)
+pub fills-step : (d : DecimalMark) (f : Option ℕ) (k : ℕ) (xs : List (List ℕ)) → option_or (filled_by f k (measure_of d (first xs))) (first_filled (k + 1) (others xs)) ≡ option_or f (first_filled k xs)
 fills-step d f k [] = ap (λ (g : Option ℕ). option_or g None) (fills-empty d f k)
 fills-step d f k ([] ∷ xs) = ap (λ (g : Option ℕ). option_or g (first_filled (k + 1) xs)) (fills-empty d f k)
 fills-step d None k ((c ∷ cs) ∷ xs) = ap (λ (g : Option ℕ). option_or g (first_filled (k + 1) xs)) (cond-false (eqb (measure_of d (c ∷ cs)).count 0) None (Some k) (filled-measured d c cs))
@@ -126,7 +126,7 @@ module _ (l : ElementAt) (old : Texts) where
 
 -- Behind the layout's components
 
-beyond_is : (b : Bool) (d : DecimalMark) (e k : ℕ) (xs : List (List ℕ)) → beyond_at (has_more xs) (spot e k) ≡ components_fault b d e k [] xs
+pub beyond_is : (b : Bool) (d : DecimalMark) (e k : ℕ) (xs : List (List ℕ)) → beyond_at (has_more xs) (spot e k) ≡ components_fault b d e k [] xs
 beyond_is b d e k [] = refl
 beyond_is b d e k (x ∷ xs) = refl
 

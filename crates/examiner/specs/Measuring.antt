@@ -1,5 +1,5 @@
 -- What one pass over a component's bytes finds of its characters.
-use Rattle.std.specs.Prelude.{ℕ, suc, ◌+◌, Bool, true, false, cond, ◌&&◌, ◌||◌, List, [], ◌∷◌, ◌++◌, length, ◌==◌, nat_le, nat_lt}
+use Rattle.std.specs.Prelude.{ℕ, suc, ◌+◌, Bool, true, false, cond, ◌&&◌, ◌||◌, List, [], ◌∷◌, length, take, replicate, ◌==◌, nat_le, nat_lt, slice_set}
 use Rattle.std.specs.Str.{bytes_eq}
 use Rattle.syntax.specs.declared.marks.DecimalMark.{DecimalMark}
 use Rattle.syntax.specs.Bytes.{digit}
@@ -34,11 +34,11 @@ complete Wrong = false
 
 -- the measure of no characters
 abbrev pub nothing : Measure
-nothing = record { count = 0; digits = 0; alphabetic = true; numeral = Nothing; letters = record { items = [] } }
+nothing = record { count = 0; digits = 0; alphabetic = true; numeral = Nothing; letters = replicate 17 0 }
 
--- the letters with one more; only the first 17 are kept
-abbrev pub kept : List ℕ → ℕ → List ℕ
-kept letters c = cond (nat_lt (length letters) 17) (letters ++ c ∷ []) letters
+-- the letters with the one behind n others; only the first 17 are kept
+abbrev pub kept : List ℕ → ℕ → ℕ → List ℕ
+kept letters n c = cond (nat_lt n 17) (slice_set letters n c) letters
 
 -- the measure with one character more
 abbrev pub grown : DecimalMark → Measure → ℕ → Measure
@@ -47,7 +47,7 @@ grown d m c = record {
   digits = m.digits + cond (digit c) 1 0;
   alphabetic = m.alphabetic && letter_or_space c;
   numeral = advanced d m.numeral c;
-  letters = record { items = kept m.letters.items c };
+  letters = kept m.letters m.count c;
 }
 
 -- the measure with more characters
@@ -90,7 +90,7 @@ size_in Alphanumeric m = m.count
 
 -- the characters are the word, of at most 17 letters
 abbrev pub spelled_in : List ℕ → Measure → Bool
-spelled_in word m = length word == m.count && bytes_eq word m.letters.items
+spelled_in word m = nat_le (length word) 17 && length word == m.count && bytes_eq word (take (length word) m.letters)
 
 -- 1 to 14 characters
 abbrev pub reference_in : Measure → Bool
@@ -98,4 +98,4 @@ reference_in m = nat_le 1 m.count && nat_le m.count 14
 
 -- 1 to 6 digits of that value
 abbrev pub count_in : ℕ → Measure → Bool
-count_in n m = nat_le 1 m.count && nat_le m.count 6 && m.digits == m.count && value_of 0 m.letters.items == n
+count_in n m = nat_le 1 m.count && nat_le m.count 6 && m.digits == m.count && value_of 0 (take m.count m.letters) == n

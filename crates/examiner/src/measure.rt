@@ -3,10 +3,9 @@ ghost use Rattle.std.specs.Prelude.{◌≡◌, ◌+◌, ◌-◌, ◌*◌, ◌^�
 ghost use Rattle.syntax.specs.Split.{characters};
 ghost use Rattle.message.specs.Layouts.{letter_or_space, within};
 ghost use Rattle.message.specs.Judging.{value_of};
-ghost use Rattle.examiner.specs.Measuring.{advanced, complete, nothing, grown, measure_of, start, ends, passed, stretch, class_in, size_in, spelled_in, reference_in, count_in};
+ghost use Rattle.examiner.specs.Measuring.{advanced, complete, kept, nothing, grown, measure_of, start, ends, passed, stretch, class_in, size_in, spelled_in, reference_in, count_in};
 
 use crate::parts::Reading;
-use arrayvec::ArrayVec;
 use message::layout::{Class, Extent};
 use syntax::bytes::is_release;
 use syntax::marks::{DecimalMark, Marks};
@@ -22,19 +21,20 @@ pub enum Numeral {
     Wrong,
 }
 
-// What is known of the characters: how many they are, those past the 17th too, and how many of them are digits, whether all are letters or spaces, how far they are a number, and the first 17 of them.
-#[derive(Clone, Drop)]
+// What is known of the characters: how many they are, those past the 17th too, and how many of them are digits, whether all are letters or spaces, how far they are a number, and the first 17 of them, with zeros behind.
+#[derive(Clone, Copy, Drop)]
 pub struct Measure {
     pub count: usize,
     pub digits: usize,
     // a flag on which no other value hangs
     pub alphabetic: bool,
     pub numeral: Numeral,
-    pub letters: ArrayVec<u8, 17>,
+    // an array and no ArrayVec, which isn't Copy
+    pub letters: [u8; 17],
 }
 
 // What the first component of some bytes is: the measure of its characters, and how many bytes it has.
-#[derive(Clone, Drop)]
+#[derive(Clone, Copy, Drop)]
 pub struct Stretch {
     pub measure: Measure,
     pub length: usize,
@@ -45,6 +45,15 @@ fn is_letter_or_space(c: u8) -> bool
     ensures { result ≡ letter_or_space c }
 {
     c.is_ascii_alphabetic() || c == b' '
+}
+
+// Keeps `c` among the first letters, as the one behind `count` others.
+fn keep(letters: &mut [u8; 17], count: usize, c: u8)
+    ensures { letters.new ≡ kept letters.old count c }
+{
+    if count < 17 {
+        letters[count] = c;
+    }
 }
 
 // The value `n` with the digit `c` behind.
@@ -102,7 +111,7 @@ impl Measure {
             digits: 0,
             alphabetic: true,
             numeral: Numeral::Nothing,
-            letters: ArrayVec::new(),
+            letters: [0; 17],
         }
     }
 
@@ -111,8 +120,7 @@ impl Measure {
         requires { (self.old.count + 1 < 2 ^ 64) × (self.old.digits + 1 < 2 ^ 64) }
         ensures { self.new ≡ grown decimal self.old c }
     {
-        // only the first 17 are kept
-        let _ = self.letters.try_push(c);
+        keep(&mut self.letters, self.count, c);
         self.count += 1;
         self.digits += usize::from(c.is_ascii_digit());
         self.alphabetic &= is_letter_or_space(c);
@@ -155,7 +163,7 @@ impl Measure {
     pub fn spells(&self, word: &[u8]) -> bool
         ensures { result ≡ spelled_in word.now self.now }
     {
-        word.len() == self.count && word == self.letters.as_slice()
+        word.len() <= 17 && word.len() == self.count && word == &self.letters[..word.len()]
     }
 
     // Whether the characters can be a reference: 1 to 14 of them.
@@ -172,7 +180,7 @@ impl Measure {
         1 <= self.count
             && self.count <= 6
             && self.digits == self.count
-            && value(self.letters.as_slice()) == n
+            && value(&self.letters[..self.count]) == n
     }
 }
 

@@ -32,7 +32,7 @@ step-others left v m (b ∷ bs) s t (Some p) e h =
     let whole : part m b ∷ map (part m) bs ≡ v p ∷ left t = sym e ∙ h in
     cc
 
-left_none : {X : Type 0} (left : List X) → length left ≡ 0 → left ≡ []
+pub left_none : {X : Type 0} (left : List X) → length left ≡ 0 → left ≡ []
 left_none [] h = refl
 left_none (p ∷ ps) h = absurd (omega arith)
 

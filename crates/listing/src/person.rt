@@ -54,7 +54,8 @@ impl TextForm for Person {
     ghost in_order = { λ name text. refl };
 
     fn push_name(page: &mut Page, name: &str) -> Result<(), AllocError> {
-        writeln!(page, "{name}")
+        page.push_bytes(name.as_bytes())?;
+        page.push(b'\n')
     }
 
     // A segment's number and its tag.

@@ -36,7 +36,9 @@ impl TextForm for Plain {
 
     // The line of a text's name.
     fn push_name(page: &mut Page, name: &str) -> Result<(), AllocError> {
-        writeln!(page, "file\t{name}")
+        page.push_bytes(b"file\t")?;
+        page.push_bytes(name.as_bytes())?;
+        page.push(b'\n')
     }
 
     // The line of a segment.

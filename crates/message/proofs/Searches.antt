@@ -1,5 +1,5 @@
 -- What the search for the next row rests on.
-use Rattle.std.proofs.Common.{◌≡◌, ℕ, suc, ◌+◌, ◌<◌, ◌≤◌, min, Bool, true, false, cond, ◌&&◌, ltb, leb, List, [], ◌∷◌, ◌++◌, length, take, drop, IfSome, Some, None, Option, sym, refl, ap, ◌∙◌, subst, inl, inr, add-one, append_assoc, append-nil, length-append, arith}
+use Rattle.std.proofs.Common.{◌≡◌, ℕ, suc, ◌+◌, ◌<◌, ◌≤◌, min, Bool, true, false, cond, not, ◌&&◌, ltb, leb, List, [], ◌∷◌, ◌++◌, length, take, drop, IfSome, Some, None, Option, sym, refl, ap, ◌∙◌, subst, inl, inr, add-one, append_assoc, append-nil, length-append, arith}
 use Rattle.std.specs.List.{slice_get, IsLastAndRest}
 use Rattle.std.proofs.Math.Seq.{take-append_seam, drop-cons}
 use Rattle.std.proofs.lemmas.Option.{slice_get_within, get_or_from_slice_get, slice_get_cases}
@@ -62,11 +62,6 @@ mapped_first held tag j r k = mapped_both held tag (record { opened = begun j r;
 pub state_of_last : (xs rest : List Open) (o : Open) → xs ≡ rest ++ (o ∷ []) → state_of xs ≡ o ∷ state_of rest
 state_of_last xs rest o e = ap state_of e ∙ reverse-append rest (o ∷ [])
 
--- what stands in the first of the open rows does so in all of them
-leads_to_part : (held open' ended : List Open) (r : Option Next) → held ≡ open' ++ ended → IfSome r (λ n. n.under ≤ length open') → option_map (leads_to held) r ≡ option_map (leads_to open') r
-leads_to_part held open' ended None e h = refl
-leads_to_part held open' ended (Some n) e h = ap (λ (xs : List Open). Some (n.opened ∷ state_of xs)) (ap (take n.under) e ∙ take-append-le n.under open' ended h)
-
 lower-within : (held : List Open) (a b : Option Next) → IfSome a (λ n. n.under ≤ length held) → IfSome b (λ n. n.under ≤ length held) → IfSome (lower_next a b) (λ n. n.under ≤ length held)
 lower-within held None b ha hb = hb
 lower-within held (Some m) None ha hb = ha
@@ -77,24 +72,28 @@ if-within true held n h = h
 if-within false held n h = tt
 
 -- what the loop of `close` keeps: with what is left to end, it gives what it began with. The check finds the lemmas on its begin and its ends by itself.
-module _ (held : List Open) (d : ℕ) (tag : List ℕ) where
-  pub record Closing (open' : List Open) (again : Option Next) : Type 0 where
+module _ (held : List Open) (d : ℕ) (tag : List ℕ) (best : Option Next) where
+  pub record Closing (open' : List Open) (now : Option Next) : Type 0 where
     pub part : (ended : List Open) × (held ≡ open' ++ ended)
     pub still : still_open d (state_of open') ≡ still_open d (state_of held)
-    pub found : lower (option_map (leads_to held) again) (lowest tag (come_again d (state_of open'))) ≡ lowest tag (come_again d (state_of held))
-    pub within : IfSome again (λ n. n.under ≤ length held)
+    pub found : (whole more : List Open) → whole ≡ held ++ more → lower (option_map (leads_to whole) now) (lowest tag (come_again d (state_of open'))) ≡ lower (option_map (leads_to whole) best) (lowest tag (come_again d (state_of held)))
+    pub within : (whole more : List Open) → whole ≡ held ++ more → IfSome best (λ n. n.under ≤ length whole) → IfSome now (λ n. n.under ≤ length whole)
 
-  pub closing_start : Closing held None
-  closing_start = record { part = ([], sym (append-nil held)); still = refl; found = refl; within = tt }
+  pub closing_start : Closing held best
+  closing_start = record { part = ([], sym (append-nil held)); still = refl; found = λ whole more e. refl; within = λ whole more e w. w }
 
-  pub closing_step : (open' outer : List Open) (o : Open) (again a again' : Option Next) (e : Bool) → Closing open' again → IsLastAndRest open' o outer → e ≡ ends_at d o → e ≡ true → a ≡ again_if tag o (length outer) → again' ≡ lower_next again a → Closing outer again'
-  closing_step open' outer o again a again' e h last ends t ea eb = record { part = (o ∷ h.part.0, whole); still = still; found = found; within = within }
+  pub closing_step : (open' outer : List Open) (o : Open) (now a now' : Option Next) (e : Bool) → Closing open' now → IsLastAndRest open' o outer → e ≡ ends_at d o → e ≡ true → a ≡ again_if tag o (length outer) → now' ≡ lower_next now a → Closing outer now'
+  closing_step open' outer o now a now' e h last ends t ea eb = record { part = (o ∷ h.part.0, all); still = still; found = found; within = within }
     where
       yes : ends_at d o ≡ true
       yes = sym ends ∙ t
 
-      whole : held ≡ outer ++ (o ∷ h.part.0)
-      whole = h.part.1 ∙ ap (λ (xs : List Open). xs ++ h.part.0) last.0 ∙ append_assoc outer (o ∷ []) h.part.0
+      all : held ≡ outer ++ (o ∷ h.part.0)
+      all = h.part.1 ∙ ap (λ (xs : List Open). xs ++ h.part.0) last.0 ∙ append_assoc outer (o ∷ []) h.part.0
+
+      -- the rows in front of `o` are the first of the whole
+      front : (whole more : List Open) → whole ≡ held ++ more → whole ≡ outer ++ (o ∷ (h.part.0 ++ more))
+      front whole more w = w ∙ ap (λ (xs : List Open). xs ++ more) all ∙ append_assoc outer (o ∷ h.part.0) more
 
       at : state_of open' ≡ o ∷ state_of outer
       at = state_of_last open' outer o last.0
@@ -105,11 +104,11 @@ module _ (held : List Open) (d : ℕ) (tag : List ℕ) where
       F : Option (List Open)
       F = cond (may_repeat o) (of_tag tag (repeated o ∷ state_of outer)) None
 
-      mine : option_map (leads_to held) a ≡ F
-      mine = ap (option_map (leads_to held)) ea ∙ mapped_again held tag o (length outer) ∙ ap (λ (xs : List Open). cond (may_repeat o) (of_tag tag (repeated o ∷ state_of xs)) None) (ap (take (length outer)) whole ∙ take-append_seam outer (o ∷ h.part.0))
+      mine : (whole more : List Open) → whole ≡ held ++ more → option_map (leads_to whole) a ≡ F
+      mine whole more w = ap (option_map (leads_to whole)) ea ∙ mapped_again whole tag o (length outer) ∙ ap (λ (xs : List Open). cond (may_repeat o) (of_tag tag (repeated o ∷ state_of xs)) None) (ap (take (length outer)) (front whole more w) ∙ take-append_seam outer (o ∷ (h.part.0 ++ more)))
 
-      new : option_map (leads_to held) again' ≡ lower (option_map (leads_to held) again) F
-      new = ap (option_map (leads_to held)) eb ∙ mapped_lower held again a ∙ ap (lower (option_map (leads_to held) again)) mine
+      new : (whole more : List Open) → whole ≡ held ++ more → option_map (leads_to whole) now' ≡ lower (option_map (leads_to whole) now) F
+      new whole more w = ap (option_map (leads_to whole)) eb ∙ mapped_lower whole now a ∙ ap (lower (option_map (leads_to whole) now)) (mine whole more w)
 
       old : lowest tag (come_again d (state_of open')) ≡ lower F (lowest tag (come_again d (state_of outer)))
       old =
@@ -117,18 +116,18 @@ module _ (held : List Open) (d : ℕ) (tag : List ℕ) where
           ∙ ap (lowest tag) (cond-true (ends_at d o) (with_if (may_repeat o) (repeated o ∷ state_of outer) (come_again d (state_of outer))) [] yes)
           ∙ lowest-with_if tag (may_repeat o) (repeated o ∷ state_of outer) (come_again d (state_of outer))
 
-      found : lower (option_map (leads_to held) again') (lowest tag (come_again d (state_of outer))) ≡ lowest tag (come_again d (state_of held))
-      found =
-          ap (λ (x : Option (List Open)). lower x (lowest tag (come_again d (state_of outer)))) new
-          ∙ lower_assoc (option_map (leads_to held) again) F (lowest tag (come_again d (state_of outer)))
-          ∙ ap (lower (option_map (leads_to held) again)) (sym old)
-          ∙ h.found
+      found : (whole more : List Open) → whole ≡ held ++ more → lower (option_map (leads_to whole) now') (lowest tag (come_again d (state_of outer))) ≡ lower (option_map (leads_to whole) best) (lowest tag (come_again d (state_of held)))
+      found whole more w =
+          ap (λ (x : Option (List Open)). lower x (lowest tag (come_again d (state_of outer)))) (new whole more w)
+          ∙ lower_assoc (option_map (leads_to whole) now) F (lowest tag (come_again d (state_of outer)))
+          ∙ ap (lower (option_map (leads_to whole) now)) (sym old)
+          ∙ h.found whole more w
 
-      within : IfSome again' (λ n. n.under ≤ length held)
-      within = subst (λ (r : Option Next). IfSome r (λ n. n.under ≤ length held)) (sym eb) (lower-within held again a h.within (subst (λ (r : Option Next). IfSome r (λ n. n.under ≤ length held)) (sym ea) (if-within (may_repeat o && has_tag tag o.row) held (record { opened = repeated o; under = length outer }) (omega (arith, ap length whole, length-append outer (o ∷ h.part.0))))))
+      within : (whole more : List Open) → whole ≡ held ++ more → IfSome best (λ n. n.under ≤ length whole) → IfSome now' (λ n. n.under ≤ length whole)
+      within whole more w b = subst (λ (r : Option Next). IfSome r (λ n. n.under ≤ length whole)) (sym eb) (lower-within whole now a (h.within whole more w b) (subst (λ (r : Option Next). IfSome r (λ n. n.under ≤ length whole)) (sym ea) (if-within (may_repeat o && has_tag tag o.row) whole (record { opened = repeated o; under = length outer }) (omega (arith, ap length (front whole more w), length-append outer (o ∷ (h.part.0 ++ more)))))))
 
-  pub closing_none : (open' : List Open) (again : Option Next) → Closing open' again → length open' ≡ 0 → Closes held d tag open' again
-  closing_none open' again h z = record { part = h.part; still = none_still ∙ h.still; found = record { state = sym (lower-none (option_map (leads_to held) again)) ∙ ap (lower (option_map (leads_to held) again)) none_found ∙ h.found; within = h.within } }
+  pub closing_none : (open' : List Open) (now : Option Next) → Closing open' now → length open' ≡ 0 → Closes held d tag best open' now
+  closing_none open' now h z = record { part = h.part; still = none_still ∙ h.still; found = λ whole more w b. record { state = sym (lower-none (option_map (leads_to whole) now)) ∙ ap (lower (option_map (leads_to whole) now)) none_found ∙ h.found whole more w; within = h.within whole more w b } }
     where
       none : state_of open' ≡ []
       none = ap state_of (nil_from_length open' z)
@@ -139,8 +138,8 @@ module _ (held : List Open) (d : ℕ) (tag : List ℕ) where
       none_found : None ≡ lowest tag (come_again d (state_of open'))
       none_found = sym (ap (λ (s : List Open). lowest tag (come_again d s)) none)
 
-  pub closing_stay : (open' outer : List Open) (o : Open) (again : Option Next) (e : Bool) → Closing open' again → IsLastAndRest open' o outer → e ≡ ends_at d o → e ≡ false → Closes held d tag open' again
-  closing_stay open' outer o again e h last ends f = record { part = h.part; still = still; found = record { state = found; within = h.within } }
+  pub closing_stay : (open' outer : List Open) (o : Open) (now : Option Next) (e : Bool) → Closing open' now → IsLastAndRest open' o outer → e ≡ ends_at d o → e ≡ false → Closes held d tag best open' now
+  closing_stay open' outer o now e h last ends f = record { part = h.part; still = still; found = λ whole more w b. record { state = found whole more w; within = h.within whole more w b } }
     where
       no : ends_at d o ≡ false
       no = sym ends ∙ f
@@ -151,15 +150,15 @@ module _ (held : List Open) (d : ℕ) (tag : List ℕ) where
       still : state_of open' ≡ still_open d (state_of held)
       still = at ∙ sym (ap (still_open d) at ∙ cond-false (ends_at d o) (still_open d (state_of outer)) (o ∷ state_of outer) no) ∙ h.still
 
-      found : option_map (leads_to held) again ≡ lowest tag (come_again d (state_of held))
-      found =
-          sym (lower-none (option_map (leads_to held) again))
-          ∙ ap (lower (option_map (leads_to held) again)) (sym (ap (λ (s : List Open). lowest tag (come_again d s)) at ∙ ap (lowest tag) (cond-false (ends_at d o) (with_if (may_repeat o) (repeated o ∷ state_of outer) (come_again d (state_of outer))) [] no)))
-          ∙ h.found
+      found : (whole more : List Open) → whole ≡ held ++ more → option_map (leads_to whole) now ≡ lower (option_map (leads_to whole) best) (lowest tag (come_again d (state_of held)))
+      found whole more w =
+          sym (lower-none (option_map (leads_to whole) now))
+          ∙ ap (lower (option_map (leads_to whole) now)) (sym (ap (λ (s : List Open). lowest tag (come_again d s)) at ∙ ap (lowest tag) (cond-false (ends_at d o) (with_if (may_repeat o) (repeated o ∷ state_of outer) (come_again d (state_of outer))) [] no)))
+          ∙ h.found whole more w
 
 -- rows by their number
 
-drop_at_nth : {X : Type 0} (xs : List X) (i : ℕ) (x : X) → Some x ≡ slice_get xs i → drop i xs ≡ x ∷ drop (suc i) xs
+pub drop_at_nth : {X : Type 0} (xs : List X) (i : ℕ) (x : X) → Some x ≡ slice_get xs i → drop i xs ≡ x ∷ drop (suc i) xs
 drop_at_nth xs i x e = drop-cons xs i x (slice_get_within xs i x (sym e)) ∙ ap (λ y. y ∷ drop (suc i) xs) (get_or_from_slice_get xs i x x (sym e))
 
 -- what the loop of `search` keeps: with the rows that are left, it gives what is sought. The check finds the lemmas on its begin and its end by itself.
@@ -206,8 +205,8 @@ module _ (rows : List Row) (tag : List ℕ) (held : List Open) where
     rest : lower (option_map (leads_to held) best) (lowest tag (Behind number (state_of open') row (drop (suc number) rows))) ≡ next rows tag (state_of held)
     within : IfSome best (λ n. n.under ≤ length held)
 
-  closed : (number : ℕ) (outer : List Open) (best : Option Next) (row : Row) (d : ℕ) (open' : List Open) (again best' : Option Next) → Sought number outer best → Some row ≡ slice_get rows number → d ≡ depth row → Closes outer d tag open' again → best' ≡ lower_next best again → Closed number row open' best'
-  closed number outer best row d open' again best' h e ed k eb = record { part = (k.part.0 ++ h.part.0, whole); rest = rest; within = within }
+  closed : (number : ℕ) (outer : List Open) (best : Option Next) (row : Row) (d : ℕ) (open' : List Open) (best' : Option Next) → Sought number outer best → Some row ≡ slice_get rows number → d ≡ depth row → Closes outer d tag best open' best' → Closed number row open' best'
+  closed number outer best row d open' best' h e ed k = record { part = (k.part.0 ++ h.part.0, whole); rest = rest; within = finds.within }
     where
       rs : List Row
       rs = drop (suc number) rows
@@ -221,12 +220,12 @@ module _ (rows : List Row) (tag : List ℕ) (held : List Open) where
       whole : held ≡ open' ++ (k.part.0 ++ h.part.0)
       whole = h.part.1 ∙ ap (λ (xs : List Open). xs ++ h.part.0) k.part.1 ∙ append_assoc open' k.part.0 h.part.0
 
-      new : option_map (leads_to held) best' ≡ lower B (lowest tag (come_again d gs))
-      new = ap (option_map (leads_to held)) eb ∙ mapped_lower held best again ∙ ap (lower B) (leads_to_part held outer h.part.0 again h.part.1 k.found.within ∙ k.found.state)
+      finds : Finds held best' (lower B (lowest tag (come_again d gs)))
+      finds = k.found held h.part.0 h.part.1 h.within
 
       rest : lower (option_map (leads_to held) best') (lowest tag (Behind number (state_of open') row rs)) ≡ next rows tag (state_of held)
       rest =
-          ap (λ (x : Option (List Open)). lower x (lowest tag (Behind number (state_of open') row rs))) new
+          ap (λ (x : Option (List Open)). lower x (lowest tag (Behind number (state_of open') row rs))) finds.state
           ∙ lower_assoc B (lowest tag (come_again d gs)) (lowest tag (Behind number (state_of open') row rs))
           ∙ ap (λ (hs : List Open). lower B (lower (lowest tag (come_again d gs)) (lowest tag (Behind number hs row rs)))) k.still
           ∙ ap (λ (n : ℕ). lower B (lower (lowest tag (come_again n gs)) (lowest tag (Behind number (still_open n gs) row rs)))) ed
@@ -234,19 +233,12 @@ module _ (rows : List Row) (tag : List ℕ) (held : List Open) where
           ∙ ap (λ (qs : List Row). lower B (lowest tag (ahead number gs qs))) (sym (drop_at_nth rows number row e))
           ∙ h.rest
 
-      wider : (r : Option Next) → IfSome r (λ n. n.under ≤ length outer) → IfSome r (λ n. n.under ≤ length held)
-      wider None w = tt
-      wider (Some n) w = omega (arith, ap length h.part.1, length-append outer h.part.0)
-
-      within : IfSome best' (λ n. n.under ≤ length held)
-      within = subst (λ (r : Option Next). IfSome r (λ n. n.under ≤ length held)) (sym eb) (lower-within held best again h.within (wider again k.found.within))
-
   -- past a row that stands deeper than the parts of what is still open
-  pub sought_skip : (number : ℕ) (outer : List Open) (best : Option Next) (row : Row) (d : ℕ) (open' : List Open) (again best' : Option Next) (w : ℕ) → Sought number outer best → Some row ≡ slice_get rows number → d ≡ depth row → Closes outer d tag open' again → best' ≡ lower_next best again → w ≡ within (state_of open') → w < d → Sought (number + 1) open' best'
-  sought_skip number outer best row d open' again best' w h e ed k eb ew l = record { part = c.part; rest = rw add-one rest; within = c.within }
+  pub sought_skip : (number : ℕ) (outer : List Open) (best : Option Next) (row : Row) (d : ℕ) (open' : List Open) (best' : Option Next) (w : ℕ) → Sought number outer best → Some row ≡ slice_get rows number → d ≡ depth row → Closes outer d tag best open' best' → w ≡ within (state_of open') → w < d → Sought (number + 1) open' best'
+  sought_skip number outer best row d open' best' w h e ed k ew l = record { part = c.part; rest = rw add-one rest; within = c.within }
     where
       c : Closed number row open' best'
-      c = closed number outer best row d open' again best' h e ed k eb
+      c = closed number outer best row d open' best' h e ed k
 
       deeper : ltb (within (state_of open')) (depth row) ≡ true
       deeper = lt-ltb (within (state_of open')) (depth row) (omega arith)
@@ -256,17 +248,39 @@ module _ (rows : List Row) (tag : List ℕ) (held : List Open) where
           ap (λ (ss : List (List Open)). lower (option_map (leads_to held) best') (lowest tag ss)) (sym (cond-true (ltb (within (state_of open')) (depth row)) (ahead (suc number) (state_of open') (drop (suc number) rows)) (with_if (leb 1 row.limit) (begun number row ∷ state_of open') (cond (is_required row.need) [] (ahead (suc number) (state_of open') (drop (suc number) rows)))) deeper))
           ∙ c.rest
 
+  -- before a row that stands deeper than the parts of what is open, nothing of that ends
+  closes_nothing : (open' : List Open) (best : Option Next) (d w : ℕ) → w ≡ within (state_of open') → w < d → Closes open' d tag best open' best
+  closes_nothing open' best d w ew l = record { part = ([], sym (append-nil open')); still = still (state_of open') k; found = λ whole more e b. record { state = sym (lower-none (option_map (leads_to whole) best)) ∙ ap (lower (option_map (leads_to whole) best)) (found (state_of open') k); within = b } }
+    where
+      k : within (state_of open') < d
+      k = omega arith
+
+      stays : (o : Open) → suc (depth o.row) < d → ends_at d o ≡ false
+      stays o m = ap not (lt-ltb (depth o.row) d (omega arith))
+
+      still : (s : List Open) → within s < d → s ≡ still_open d s
+      still [] m = refl
+      still (o ∷ gs) m = sym (cond-false (ends_at d o) (still_open d gs) (o ∷ gs) (stays o m))
+
+      found : (s : List Open) → within s < d → None ≡ lowest tag (come_again d s)
+      found [] m = refl
+      found (o ∷ gs) m = sym (ap (lowest tag) (cond-false (ends_at d o) (with_if (may_repeat o) (repeated o ∷ gs) (come_again d gs)) [] (stays o m)))
+
+  -- past a row of a group that isn't open
+  pub sought_inside : (number : ℕ) (open' : List Open) (best : Option Next) (row : Row) (d w : ℕ) → Sought number open' best → Some row ≡ slice_get rows number → d ≡ depth row → w ≡ within (state_of open') → w < d → Sought (number + 1) open' best
+  sought_inside number open' best row d w h e ed ew l = sought_skip number open' best row d open' best w h e ed (closes_nothing open' best d w ew l) ew l
+
   -- at a row that may come
   pub record Reached (number : ℕ) (row : Row) (open' : List Open) (best : Option Next) : Type 0 where
     pub part : (ended : List Open) × (held ≡ open' ++ ended)
     pub rest : lower (option_map (leads_to held) best) (lowest tag (cond (is_required row.need) [] (ahead (suc number) (state_of open') (drop (suc number) rows)))) ≡ next rows tag (state_of held)
     pub within : IfSome best (λ n. n.under ≤ length held)
 
-  pub reached : (number : ℕ) (outer : List Open) (best : Option Next) (row : Row) (d : ℕ) (open' : List Open) (again best' : Option Next) (w : ℕ) (one best'' : Option Next) → Sought number outer best → Some row ≡ slice_get rows number → d ≡ depth row → Closes outer d tag open' again → best' ≡ lower_next best again → w ≡ within (state_of open') → d ≤ w → one ≡ first_if tag number row (length open') → best'' ≡ lower_next best' one → Reached number row open' best''
-  reached number outer best row d open' again best' w one best'' s e ed k ea ew l e1 eb = record { part = h.part; rest = rest; within = within' }
+  pub reached : (number : ℕ) (outer : List Open) (best : Option Next) (row : Row) (d : ℕ) (open' : List Open) (best' : Option Next) (w : ℕ) (one best'' : Option Next) → Sought number outer best → Some row ≡ slice_get rows number → d ≡ depth row → Closes outer d tag best open' best' → w ≡ within (state_of open') → d ≤ w → one ≡ first_if tag number row (length open') → best'' ≡ lower_next best' one → Reached number row open' best''
+  reached number outer best row d open' best' w one best'' s e ed k ew l e1 eb = record { part = h.part; rest = rest; within = within' }
     where
       h : Closed number row open' best'
-      h = closed number outer best row d open' again best' s e ed k ea
+      h = closed number outer best row d open' best' s e ed k
 
       later : List (List Open)
       later = ahead (suc number) (state_of open') (drop (suc number) rows)

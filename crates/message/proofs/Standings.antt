@@ -217,3 +217,10 @@ module _ (rows : List Row) (K : RowRules rows) where
         },
         moved h k.member,
       )
+
+  -- what is found is a state of an open row
+  pub next-some : (s : List Open) (tag : List ℕ) (t : List Open) → next rows tag s ≡ Some t → (o : Open) × (gs : List Open) × (t ≡ o ∷ gs)
+  unfolding LowestAmong
+  next-some s tag t e =
+      let k : LowestIn tag (next_states rows s) t = subst (LowestAmong tag (next_states rows s)) e (lowest-among tag (next_states rows s)) in
+      ahead-some rows K (step rows K {s = s} k.member)

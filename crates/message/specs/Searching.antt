@@ -4,7 +4,7 @@ use Rattle.std.specs.Option.{option_map}
 use Rattle.message.specs.declared.row.Row.{Row}
 use Rattle.message.specs.declared.open.Open.{Open}
 use Rattle.message.specs.declared.open.Next.{Next}
-use Rattle.message.specs.Walk.{begun, repeated, may_repeat, has_tag, still_open, come_again, lowest}
+use Rattle.message.specs.Walk.{begun, repeated, may_repeat, has_tag, still_open, come_again, lower, lowest}
 
 -- the state that a table is: the last of its rows came last
 abbrev pub state_of : List Open → List Open
@@ -33,11 +33,11 @@ pub record Finds (held : List Open) (found : Option Next) (s : Option (List Open
   pub state : option_map (leads_to held) found ≡ s
   pub within : IfSome found (λ n. n.under ≤ length held)
 
--- the open rows that end before a row of depth d are ended, and the lowest of those of them that may come again is found
-pub record Closes (held : List Open) (d : ℕ) (tag : List ℕ) (open' : List Open) (again : Option Next) : Type 0 where
+-- the open rows that end before a row of depth d are ended, and `best'` is the lowest of `best` and of those of them that may come again, in whatever rows they stand
+pub record Closes (held : List Open) (d : ℕ) (tag : List ℕ) (best : Option Next) (open' : List Open) (best' : Option Next) : Type 0 where
   pub part : (ended : List Open) × (held ≡ open' ++ ended)
   pub still : state_of open' ≡ still_open d (state_of held)
-  pub found : Finds held again (lowest tag (come_again d (state_of held)))
+  pub found : (whole more : List Open) → whole ≡ held ++ more → IfSome best (λ n. n.under ≤ length whole) → Finds whole best' (lower (option_map (leads_to whole) best) (lowest tag (come_again d (state_of held))))
 
 -- what is answered where this row comes next
 abbrev pub answer_of : Next → ℕ × ℕ

@@ -14,15 +14,24 @@ pub enum Class {
     Alphanumeric,
 }
 
+impl Class {
+    // As EDIFACT writes it in front of the length.
+    pub fn name(self) -> &'static str
+        ensures { result.now ≡ class_text self }
+    {
+        match self {
+            Class::Alphabetic => "a",
+            Class::Numeric => "n",
+            Class::Alphanumeric => "an",
+        }
+    }
+}
+
 impl fmt::Display for Class {
     ghost output = { λ class. Some (class_text class) };
 
     fn fmt<W: fmt::Write>(&self, f: &mut fmt::Formatter<W>) -> fmt::Result {
-        f.write_str(match self {
-            Class::Alphabetic => "a",
-            Class::Numeric => "n",
-            Class::Alphanumeric => "an",
-        })
+        f.write_str(self.name())
     }
 }
 

@@ -42,12 +42,14 @@ impl Next {
     pub(crate) fn first(number: usize, row: Row, under: usize, tag: [u8; 3]) -> Option<Next>
         ensures { result ≡ first_if tag number row under }
     {
-        let opened = Open {
-            number,
-            occurrence: 1,
-            row,
-        };
-        (row.limit >= 1 && row.tag == tag).then_some(Next { opened, under })
+        (row.limit >= 1 && row.tag == tag).then(|| Next {
+            opened: Open {
+                number,
+                occurrence: 1,
+                row,
+            },
+            under,
+        })
     }
 
     // The next occurrence of an open row that stands in `under` others, if it may come and has the tag.

@@ -6,14 +6,17 @@ ghost use Rattle.message.specs.Searching.{state_of, lower_next, Finds, Closes};
 use crate::book::Diagram;
 use crate::open::{Next, Open};
 
-// The one with the lower row number, and `a` if both have the same. A match: with `min_by_key` a goal stays open.
+// The one with the lower row number, and `a` if both have the same. By hand: with `min_by_key` a goal stays open.
+// `b` is looked at first, since most often there is none; a match on the pair would build it at each row.
 fn lower_of(a: Option<Next>, b: Option<Next>) -> Option<Next>
     ensures { result ≡ lower_next a b }
 {
-    match (a, b) {
-        (Some(m), Some(n)) if n.opened.number < m.opened.number => b,
-        (Some(_), _) => a,
-        (None, _) => b,
+    let Some(n) = b else {
+        return a;
+    };
+    match a {
+        Some(m) if m.opened.number <= n.opened.number => a,
+        _ => b,
     }
 }
 
@@ -39,26 +42,26 @@ pub fn is_last(held: &[Open], count: usize) -> bool
     held.last().map_or(count == 0, |came| came.number.checked_add(1) == Some(count))
 }
 
-// The rows that are still open before a row, and the lowest of those that have ended and may come again.
+// How far a search has come: the rows that are still open, and the lowest row found.
 #[derive(Clone, Copy, Drop)]
-struct Closed<'h> {
+struct Scan<'h> {
     open: &'h [Open],
-    again: Option<Next>,
+    best: Option<Next>,
 }
 
-// Ends the open rows that end before a row of this depth, and finds the lowest of those that may come again.
-fn close(held: &[Open], depth: usize, tag: [u8; 3]) -> Closed<'_>
-    ensures { Closes held.now depth tag result.open.now result.again }
+// Ends the open rows that end before a row of this depth. Those of them that may come again are found too.
+fn close<'h>(held: &'h [Open], found: Option<Next>, depth: usize, tag: [u8; 3]) -> Scan<'h>
+    ensures { Closes held.now depth tag found result.open.now result.best }
 {
     let mut open = held;
-    let mut again: Option<Next> = None;
+    let mut best = found;
     while let Some((innermost, outer)) = open.split_last()
         && innermost.ends_at(depth)
     {
-        again = lower_of(again, Next::again(*innermost, outer.len(), tag));
+        best = lower_of(best, Next::again(*innermost, outer.len(), tag));
         open = outer;
     }
-    Closed { open, again }
+    Scan { open, best }
 }
 
 // The row that comes next if a segment of this tag is offered, where the rows `held` are open, the innermost last.
@@ -73,9 +76,13 @@ pub fn search<D: Diagram>(diagram: &D, held: &[Open], tag: [u8; 3]) -> Option<Ne
             return best;
         };
         let depth = row.depth();
-        let closed = close(open, depth, tag);
+        // inside a group that isn't open: no open row ends before it
+        if depth > parts_depth(open) {
+            continue;
+        }
+        let closed = close(open, best, depth, tag);
         open = closed.open;
-        best = lower_of(best, closed.again);
+        best = closed.best;
         if depth > parts_depth(open) {
             continue;
         }

@@ -1,5 +1,5 @@
-use Rattle.std.proofs.Common.{◌≡◌, ℕ, suc, ◌+◌, ◌-◌, ◌<◌, ◌≤◌, Bool, true, false, cond, ltb, List, [], ◌∷◌, length, take, drop, sym, refl, ap, ◌∙◌, add-one, arith}
-use Rattle.std.proofs.lemmas.List.{take_rest, take_all, length-drop, drop-drop}
+use Rattle.std.proofs.Common.{◌≡◌, ℕ, suc, ◌+◌, ◌-◌, ◌<◌, ◌≤◌, Bool, true, false, cond, ltb, List, [], ◌∷◌, length, get_or, take, drop, sym, refl, ap, ◌∙◌, add-one, arith}
+use Rattle.std.proofs.lemmas.List.{take_rest, take_all, length-drop, drop-drop, at_drop_more, at_drop_all}
 use Rattle.std.proofs.lemmas.Bool.{cond-true, cond-false, cond_both, lt-ltb, le-ltb}
 use Rattle.std.proofs.lemmas.Bool.Decides.{nat_tests}
 use Rattle.syntax.specs.Split.{releases, divides, onto, split, reach, join, characters}
@@ -101,3 +101,22 @@ characters-short rl r (b ∷ bs) =
     let rest : List ℕ = characters rl (releases rl r b) bs in
     let short : length rest ≤ length bs = characters-short rl (releases rl r b) bs in
     cond_both (releases rl r b) rest (b ∷ rest) (λ x. length x ≤ suc (length bs)) (λ _. omega (arith, short)) (λ _. omega (arith, short))
+
+pub count_more : (rl k : ℕ) (r : Bool) (s : List ℕ) (i : ℕ) → i < length s →
+    length (split rl k r (drop i s)) ≡ cond (divides rl k r (get_or s i 0)) (suc (length (split rl k (releases rl r (get_or s i 0)) (drop (i + 1) s)))) (length (split rl k (releases rl r (get_or s i 0)) (drop (i + 1) s)))
+count_more rl k r s i h =
+    let b : ℕ = get_or s i 0 in
+    let rest : List (List ℕ) = split rl k (releases rl r b) (drop (i + 1) s) in
+    at_drop_more (λ x. length (split rl k r x)) s i 0 h
+    ∙ (elim (divides rl k r b) as (λ t. length (cond t ([] ∷ rest) (onto b rest)) ≡ cond t (suc (length rest)) (length rest))
+    [ true ↦ refl | false ↦ length-onto b rest (split-some rl k (releases rl r b) (drop (i + 1) s)) ])
+
+pub count_done : (rl k : ℕ) (r : Bool) (s : List ℕ) (i : ℕ) → length s ≤ i → length (split rl k r (drop i s)) ≡ 1
+count_done rl k r s i h = at_drop_all (λ x. length (split rl k r x)) s i h
+
+pub reach_more : (rl k : ℕ) (r : Bool) (s : List ℕ) (i : ℕ) → i < length s →
+    reach rl k r (drop i s) ≡ cond (divides rl k r (get_or s i 0)) 0 (suc (reach rl k (releases rl r (get_or s i 0)) (drop (i + 1) s)))
+reach_more rl k r s i h = at_drop_more (reach rl k r) s i 0 h
+
+pub reach_done : (rl k : ℕ) (r : Bool) (s : List ℕ) (i : ℕ) → length s ≤ i → reach rl k r (drop i s) ≡ 0
+reach_done rl k r s i h = at_drop_all (reach rl k r) s i h

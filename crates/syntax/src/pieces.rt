@@ -31,10 +31,13 @@ pub fn first_piece(bytes: &[u8], divider: Divider) -> usize
 {
     let mut protected = false;
     for (i, b) in bytes.iter().enumerate() {
-        if divider.divides(*b, protected) {
+        if protected {
+            protected = false;
+        } else if *b == divider.release {
+            protected = true;
+        } else if *b == divider.mark {
             return i;
         }
-        protected = is_release(*b, divider.release, protected);
     }
     bytes.len()
 }
@@ -91,16 +94,24 @@ fn nth_piece<'t>(mut pieces: Pieces<'t>, number: usize) -> Option<&'t [u8]>
     pieces.nth(number)
 }
 
-// The piece of that number, from 0. It and the next are thin over `Pieces::of`, and take what it takes.
+// The piece of that number, from 0. It is thin over `Pieces::of`, and takes what that takes.
 pub fn piece<'t>(bytes: &'t [u8], divider: Divider, number: usize) -> Option<&'t [u8]>
     ensures { option_map (λ x. x.now) result ≡ slice_get (split divider.release divider.mark false bytes.now) number }
 {
     nth_piece(Pieces::of(bytes, divider), number)
 }
 
-// How many pieces there are.
+// How many pieces there are. A loop over the bytes: counting the cursor's steps takes up to twice as long.
 pub fn piece_count(bytes: &[u8], divider: Divider) -> usize
     ensures { result ≡ length (split divider.release divider.mark false bytes.now) }
 {
-    Pieces::of(bytes, divider).count()
+    let mut count = 1;
+    let mut protected = false;
+    for b in bytes {
+        if divider.divides(*b, protected) {
+            count += 1;
+        }
+        protected = is_release(*b, divider.release, protected);
+    }
+    count
 }
