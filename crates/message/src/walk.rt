@@ -2,13 +2,21 @@
 ghost use Rattle.std.specs.Prelude.{◌≡◌, ◌≤◌, [], ◌∷◌, ◌++◌, take, OnSome, IfNone};
 ghost use Rattle.message.specs.Walk.{next};
 ghost use Rattle.message.specs.WalkLaws.{WalkLaws};
-ghost use Rattle.message.specs.Searching.{state_of, Finds};
+ghost use Rattle.std.specs.Option.{option_map};
+ghost use Rattle.message.specs.Searching.{state_of, answer_of, Finds};
 ghost use Rattle.message.specs.Walking.{StandsAfter, Asks, Offers, Completes};
 
 use crate::book::Diagram;
 use crate::open::{Next, Open};
 use crate::search::{is_last, search};
 use arrayvec::ArrayVec;
+
+// What a question is answered: the row that an offer would get, and its occurrence, if there is one.
+fn answer_to_question(found: Option<Next>) -> Option<(usize, u32)>
+    ensures { result ≡ option_map answer_of found }
+{
+    found.map(Next::answer)
+}
 
 // Where a walk stands: the rows that are open, the innermost last. Levels go up to 7, so that eight have room.
 // No Vec: a walk allocates nothing.
@@ -66,7 +74,7 @@ impl<'d, D: Diagram> Walk<'d, D> {
     pub fn ask(&self, tag: [u8; 3]) -> Option<(usize, u32)>
         ensures { Asks D.Diagram.rows self.now tag result }
     {
-        self.find(tag).map(Next::answer)
+        answer_to_question(self.find(tag))
     }
 
     // Goes on by a tag. Answers the number and the occurrence of its row, the lowest that can come next, or none.
